@@ -1,5 +1,6 @@
-use Rattle.codec.proofs.WorkedBlocks.{worked}
+use Rattle.blocks.proofs.WorkedBlocks.{worked-blocks}
+use Rattle.lines.proofs.Moves.{worked-masks}
 use Rattle.codec.proofs.worked.worked_values.Needs as need
 
 pub returns : need.returns
-returns c = record { worked-values-hold = worked }
+returns c = record { worked-values-hold = record { blocks = worked-blocks; masks = worked-masks } }

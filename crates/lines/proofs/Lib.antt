@@ -1,0 +1,4 @@
+pub mod Turning
+pub mod Linear
+pub mod Moves
+pub mod NineAtOnce

@@ -1,0 +1,3 @@
+pub mod Making
+pub mod Scramblers
+pub mod LineCodes
