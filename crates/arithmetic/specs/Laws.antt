@@ -37,6 +37,7 @@ pub record Lawful (f : Operations) : Type 0 where
   pub times-one : (a : ℕ) → f .times a 1 ≡ a % elements
   pub distributes : (a b c : ℕ) → f .times a (f .plus b c) ≡ f .plus (f .times a b) (f .times a c)
   pub inverse-zero : f .inverse 0 ≡ 0
+  pub inverse-modulo : (a : ℕ) → f .inverse a ≡ f .inverse (a % elements)
   pub inverse-right : (a : ℕ) → 0 < a % elements → f .times a (f .inverse a) ≡ 1
   pub powers-differ : (i j : ℕ) → i < j → j < longest → power f (f .alpha) i ≡ power f (f .alpha) j → ⊥
 

@@ -1,1 +1,10 @@
+pub mod Frames
+pub mod Ends
+pub mod Lines
+pub mod Locks
+pub mod Refusals
+pub mod Reports
+pub mod Calls
+pub mod Histories
+pub mod Law
 pub mod Worked

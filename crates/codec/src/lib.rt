@@ -1,4 +1,8 @@
 //! The line codec: what the layers below publish, under one name.
+mod faults;
+mod lock;
+mod report;
+mod request;
 mod worked;
 
 pub use blocks::BlockFault;

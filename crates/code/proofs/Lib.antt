@@ -1,0 +1,17 @@
+pub mod Distances
+pub mod Basic
+pub mod Moments
+pub mod Quotients
+pub mod Cover
+pub mod Unique
+pub mod Monic
+pub mod Values
+pub mod Decoded
+pub mod Products
+pub mod Registers
+pub mod Completion
+pub mod Recurrences
+pub mod Places
+pub mod Nearest
+pub mod Corrections
+pub mod Repairs
