@@ -1,0 +1,4 @@
+pub mod Answered
+pub mod Checks
+pub mod AcceptedTells
+pub mod SentComesBack

@@ -22,6 +22,8 @@ pub record Agree (a b : End) : Type 0 where
   pub streams : Streams-agree (a .mask) (b .mask)
   pub codes : Line-codes-agree (a .pair) (b .pair)
 
--- the same end after some periods, of 450 masks each
-abbrev pub later : ℕ → End → End
-later periods end = made-over (end .field) (λ i. end .mask (450 * periods + i)) (end .pair)
+-- where an end stands some periods later: a period uses up 450 masks, and nothing else changes
+pub record Later (periods : ℕ) (before after : End) : Type 0 where
+  pub arithmetic : after .field ≡ before .field
+  pub masks : (k : ℕ) → after .mask k ≡ before .mask (450 * periods + k)
+  pub code : after .pair ≡ before .pair

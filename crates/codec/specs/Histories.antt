@@ -5,9 +5,8 @@ use mathlib.Core.List.{List, [], _∷_, _++_}
 use Prim.Native.Nat.{ℕ}
 use lib.Dec.{T}
 use lib.IntN.{ℤ}
-use Rattle.std.specs.shelf.Lists.{countBy, folded}
+use Rattle.std.specs.shelf.Lists.{countBy}
 use Rattle.codec.specs.Calls.{Call, send, sender-rest, receive, receiver-rest, content, is-period, lock-after}
-use Rattle.codec.specs.Locks.{new-lock}
 use Rattle.codec.specs.declared.request.Turn.{Turn}
 use Rattle.codec.specs.declared.lock.Lock.{Lock}
 use Rattle.codec.specs.declared.request.Outcome.{Outcome}
@@ -42,9 +41,10 @@ sender-periods events = countBy (λ event. at-sender (event .asked) && is-period
 unfoldable pub receiver-periods : List Event → ℕ
 receiver-periods events = countBy (λ event. not (at-sender (event .asked)) && is-period (event .outcome)) events
 
--- the receiver's lock, after it was made new
-unfoldable pub lock-of : List Event → Lock
-lock-of events = folded (λ lock event. lock-after lock (event .outcome)) new-lock events
+-- the receiver's lock after these events, from the lock that it had at first
+unfoldable pub lock-from : Lock → List Event → Lock
+lock-from lock [] = lock
+lock-from lock (event ∷ events) = lock-from (lock-after lock (event .outcome)) events
 
 abbrev pub line-in : Call → List ℤ
 line-in (send characters symbol line) = line

@@ -10,7 +10,7 @@ use Rattle.std.specs.declared.option.Option.the-variants.{None}
 use Rattle.codec.specs.Calls.{Call, send, sender-rest, receive, receiver-rest, faults, beyond-repair, Answers}
 use Rattle.codec.specs.Ends.{End, Agree}
 use Rattle.codec.specs.Frames.{symbol-of, block-at, ten-at}
-use Rattle.codec.specs.Histories.{Event, Occurs, Sends, Receives, at-sender, sender-periods, receiver-periods, lock-of}
+use Rattle.codec.specs.Histories.{Event, Occurs, Sends, Receives, at-sender, sender-periods, receiver-periods, lock-from}
 use Rattle.codec.specs.Lines.{Near, None-near, line-frame, differing, apart, padded}
 use Rattle.codec.specs.Refusals.{end-refusal}
 use Rattle.codec.specs.Reports.{Block-told, First-fault}
@@ -19,13 +19,13 @@ use Rattle.codec.specs.declared.report.Report.{Report}
 use Rattle.codec.specs.declared.request.Outcome.the-variants.{Accepted, Refused}
 use Rattle.codec.specs.declared.faults.EndFault.{EndFault}
 
--- Every call is answered as its rule says, each end counting its own periods.
-abbrev pub Every-call-answers : End → End → List Event → Type 0
-Every-call-answers sender receiver events =
+-- Every call is answered as its rule says, each end counting its own periods. The lock is that of the receiver at first.
+abbrev pub Every-call-answers : End → End → Lock → List Event → Type 0
+Every-call-answers sender receiver lock events =
     (ahead : List Event) (event : Event) → Occurs events ahead event
     → cond (at-sender (event .asked))
-    (Answers sender (sender-periods ahead) (lock-of ahead) (event .asked) (event .left) (event .outcome))
-    (Answers receiver (receiver-periods ahead) (lock-of ahead) (event .asked) (event .left) (event .outcome))
+    (Answers sender (sender-periods ahead) (lock-from lock ahead) (event .asked) (event .left) (event .outcome))
+    (Answers receiver (receiver-periods ahead) (lock-from lock ahead) (event .asked) (event .left) (event .outcome))
 
 -- Where a period of the sender was a send, and the receiver's period of that number a receive of a line at most 22 groups apart
 -- from the one sent, the receiver handed out the characters and the symbol sent, and as places exactly the groups that differ.
@@ -74,8 +74,8 @@ Refuses receiver period lock asked fault =
     elim (faults lock asked) [ [] ↦ Hopeless receiver period asked × (fault ≡ beyond-repair) | first ∷ more ↦ fault ≡ first ]
 
 -- Calls are refused exactly where the rules say so, and a refused call that was no period has changed nothing.
-pub record Refused-exactly (receiver : End) (events : List Event) : Type 0 where
+pub record Refused-exactly (receiver : End) (lock : Lock) (events : List Event) : Type 0 where
   pub where-stated : (ahead : List Event) (event : Event) (fault : EndFault) → Occurs events ahead event
-      → (event .outcome ≡ Refused fault) ↔ Refuses receiver (receiver-periods ahead) (lock-of ahead) (event .asked) fault
+      → (event .outcome ≡ Refused fault) ↔ Refuses receiver (receiver-periods ahead) (lock-from lock ahead) (event .asked) fault
   pub untouched : (ahead : List Event) (event : Event) (fault : EndFault) → Occurs events ahead event
       → event .outcome ≡ Refused fault → end-refusal fault .number < 7 → event .left ≡ event .asked

@@ -1,9 +1,11 @@
 pub mod Frames
 pub mod Ends
 pub mod Lines
+pub mod Hearing
 pub mod Locks
 pub mod Refusals
 pub mod Reports
+pub mod Numbering
 pub mod Calls
 pub mod Histories
 pub mod Law

@@ -1,6 +1,8 @@
 //! The line codec: what the layers below publish, under one name.
 mod faults;
+mod hearing;
 mod lock;
+mod numbering;
 mod report;
 mod request;
 mod worked;

@@ -12,3 +12,12 @@ pub struct Report {
     /// The fault of the first invalid block.
     pub fault: Option<FrameFault>,
 }
+
+/// What is told of the blocks of a frame.
+#[derive(Clone, Copy)]
+pub struct BlockReport {
+    /// The invalid blocks: weight 2^k for block k.
+    pub invalid: u64,
+    /// The fault of the first invalid block.
+    pub fault: Option<FrameFault>,
+}
