@@ -23,6 +23,7 @@ use Rattle.blocks.specs.declared.faults.BlockFault.{BlockFault}
 use Rattle.blocks.specs.declared.faults.BlockFault.the-variants.{InvalidPointer, ReservedCode}
 use Rattle.blocks.specs.declared.ahead.Ahead.{Ahead}
 use Rattle.blocks.specs.declared.ahead.Ahead.the-variants.{Pointer, Control, Nothing}
+use Rattle.blocks.proofs.Packing.{drop-unpacked}
 use Rattle.blocks.proofs.Octets.{Points, block-line}
 use Rattle.blocks.proofs.Inverse.{Below, from-allowed, allowed-from, is-control-from, points-valid, valid-points, back-nothing, starts, reads-back, makes-block, only-those}
 
@@ -48,16 +49,8 @@ code-is b bs h =
     high : (t : ℕ) → t < 8 → t / 2 / 2 % 2 + 2 * (t / 2 % 2 + 2 * (t % 2 + 2 * 0)) ≡ turned t
     high t h = omega arith
 
-unpacked-drop : (j : ℕ) (bs : List ℕ) → drop (8 * j) (unpacked 8 bs) ≡ unpacked 8 (drop j bs)
-unfolding unpacked bits
-unpacked-drop zero bs = refl
-unpacked-drop (suc j) [] = let e : 8 * suc j ≡ suc (8 * j + 7) = omega arith in rw e
-unpacked-drop (suc j) (b ∷ bs) =
-    let e : 8 * suc j ≡ suc (suc (suc (suc (suc (suc (suc (suc (8 * j)))))))) = omega arith in
-    rw e (unpacked-drop j bs)
-
 at-code : (j : ℕ) (bs : List ℕ) → drop (5 + 8 * j) (unpacked 8 bs) ≡ drop 5 (unpacked 8 (drop j bs))
-at-code j bs = let e : 5 + 8 * j ≡ 8 * j + 5 = omega arith in rw e (sym (drop-drop 5 (8 * j) (unpacked 8 bs)) ∙ ap (drop 5) (unpacked-drop j bs))
+at-code j bs = let e : 5 + 8 * j ≡ 8 * j + 5 = omega arith in rw e (sym (drop-drop 5 (8 * j) (unpacked 8 bs)) ∙ ap (drop 5) (drop-unpacked 8 j bs))
 
 -- what follows octet j
 past-code : (j : ℕ) (bs : List ℕ) → j < length bs → drop 3 (drop 5 (unpacked 8 (drop j bs))) ≡ unpacked 8 (drop (suc j) bs)

@@ -1,3 +1,4 @@
+pub mod Packing
 pub mod Octets
 pub mod Inverse
 pub mod Invalid

@@ -4,7 +4,7 @@ use mathlib.Core.Logic.{_≢_}
 use Prim.Native.Nat.{ℕ, zero, suc, _+_, _*_, _%_, _<_}
 use native.Mathlib.Nat.{mod-eq-of-lt, zero-add as nat-zero-add, suc-add, zero-mul as nat-zero-mul, suc-mul, add-comm as nat-add-comm}
 use native.Mathlib.Omega.{arith}
-use Rattle.arithmetic.specs.Laws.{Operations, Lawful, power, elements, longest}
+use Rattle.arithmetic.specs.Laws.{Operations, Lawful, power, elements}
 
 module _ {F : Operations} (laws : Lawful F) where
   infixl 60 _⊕_
@@ -59,9 +59,6 @@ module _ {F : Operations} (laws : Lawful F) where
   zero-of-times a b ha hb n e =
       let i : a ⊗ F .inverse a ≡ 1 = inverse-of a n ha in
       cc (times-one-left b hb, times-comm a (F .inverse a), times-assoc (F .inverse a) a b, times-zero-right (F .inverse a))
-
-  pub times-not-zero : (a b : ℕ) → a < elements → b < elements → a ≢ 0 → b ≢ 0 → a ⊗ b ≢ 0
-  times-not-zero a b ha hb n m e = m (zero-of-times a b ha hb n e)
 
   pub power-below : (x j : ℕ) → power F x j < elements
   power-below x zero = omega arith

@@ -5,7 +5,7 @@ use mathlib.Core.List.{List, [], _∷_}
 use Prim.Native.Nat.{ℕ, suc, _+_, _<_, _≤_}
 use native.Mathlib.Omega.{arith}
 use lib.ListN.{length}
-use Rattle.arithmetic.specs.Laws.{Operations, Lawful, power, elements, longest}
+use Rattle.arithmetic.specs.Laws.{Operations, Lawful, elements}
 use Rattle.std.specs.shelf.Lists.{All}
 use Rattle.code.specs.Polynomials.{Apart, dot, eval, moment}
 use Rattle.code.proofs.Basic.{zero-of-times}

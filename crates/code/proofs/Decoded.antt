@@ -1,5 +1,5 @@
 -- A word of the code that is near is found from any polynomial that the sums annul. Assumes nothing.
-use mathlib.Core.Path.{_≡_, refl, sym, ap, _∙_, subst}
+use mathlib.Core.Path.{_≡_, refl, sym, ap, _∙_}
 use mathlib.Core.Logic.{_≢_, _⊎_, inl, inr}
 use mathlib.Core.Bool.{Bool, true, false, cond}
 use mathlib.Core.List.{List, [], _∷_, _++_}
@@ -12,9 +12,9 @@ use Rattle.std.specs.shelf.Lists.{All, kept-by}
 use Rattle.std.proofs.shelf.Elements.{all-weaker, kept-by-passes}
 use Rattle.arithmetic.specs.Laws.{Operations, Lawful, power, elements, longest}
 use Rattle.code.specs.Words.{coefficient, below, distance, sum, syndrome}
-use Rattle.code.specs.Polynomials.{correction, dotMonic, eval, evalMonic, is-root, moment, quotient, timesRoot}
+use Rattle.code.specs.Polynomials.{correction, dotMonic, eval, evalMonic, is-root, moment, quotient}
 use Rattle.code.proofs.Distances.{differs, same-at, other-at, distance-places, all-below, below-all}
-use Rattle.code.proofs.Basic.{plus-zero-left, plus-zero-right, times-one-right, times-zero-right, times-zero-left, distrib-right, plus-left-comm, times-left-comm, plus-self-left, same-of-sum-zero, power-below, inverse-of}
+use Rattle.code.proofs.Basic.{plus-zero-left, plus-zero-right, times-one-right, times-zero-right, times-zero-left, plus-self-left, same-of-sum-zero, power-below, inverse-of}
 use Rattle.code.proofs.Moments.{sum-zero, sum-below, exchange, all-both}
 use Rattle.code.proofs.Quotients.{evalMonic-below, eval-monic, roots, quotient-root, length-quotient}
 use Rattle.code.proofs.Cover.{dot-same, cover-given}

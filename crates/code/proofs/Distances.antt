@@ -8,9 +8,9 @@ use native.Mathlib.Decide.{ℕ-discrete}
 use native.Mathlib.Omega.{arith}
 use lib.Dec.{eqb}
 use lib.ListN.{length, getD, take, drop}
-use borrow.Author.Tests.{eq-eqb, ne-eqb, eqb-true, eqb-false, not-true, not-false}
+use borrow.Author.Tests.{eq-eqb, eqb-true, eqb-false, not-true, not-false}
 use Rattle.std.specs.shelf.Lists.{All, kept-by}
-use Rattle.std.proofs.shelf.Lists.{drop-more, drop-all}
+use Rattle.std.proofs.shelf.Lists.{drop-more}
 use Rattle.code.specs.Words.{coefficient, below, distance}
 
 -- whether two words differ in the coefficient i

@@ -15,3 +15,5 @@ pub mod Places
 pub mod Nearest
 pub mod Corrections
 pub mod Repairs
+pub mod Refused
+pub mod Agreement

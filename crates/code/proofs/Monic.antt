@@ -1,13 +1,12 @@
 -- A monic polynomial with a multiple of another added, against a row of numbers. Assumes nothing.
 use mathlib.Core.Path.{_≡_, refl, ap, _∙_}
-use mathlib.Core.Logic.{_≢_}
 use mathlib.Core.List.{List, [], _∷_, _++_}
 use Prim.Native.Nat.{ℕ, suc, _<_}
 use native.Mathlib.Omega.{arith}
 use lib.ListN.{length}
-use Rattle.arithmetic.specs.Laws.{Operations, Lawful, power, elements, longest}
+use Rattle.arithmetic.specs.Laws.{Operations, Lawful, elements}
 use Rattle.code.specs.Polynomials.{dot, dotMonic, plusMonic}
-use Rattle.code.proofs.Basic.{inverse-of, plus-zero-right, times-one-left, times-one-right, distrib-right, plus-left-comm}
+use Rattle.code.proofs.Basic.{plus-zero-right, times-one-left, distrib-right, plus-left-comm}
 
 module _ {F : Operations} (laws : Lawful F) where
   infixl 60 _⊕_
@@ -39,6 +38,3 @@ module _ {F : Operations} (laws : Lawful F) where
   linear k p [] s j h = absurd (omega arith)
   linear k [] (b ∷ q) s j h = last-step b k (s j) _
   linear k (a ∷ p) (b ∷ q) s j h = rw (linear k p q s (suc j) (omega arith)) (more-step a b k (s j) _ _)
-
-  pub cancel : (a b : ℕ) → a < elements → b < elements → a ≢ 0 → b ⊕ (b ⊗ F .inverse a) ⊗ a ≡ 0
-  cancel a b ha hb n = rw (times-assoc b (F .inverse a) a, times-comm (F .inverse a) a, inverse-of laws a n ha, times-one-right laws b hb) (plus-self b)

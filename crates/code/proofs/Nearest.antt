@@ -1,19 +1,16 @@
 -- The word with the corrections is the codeword that is near. Assumes nothing.
 use mathlib.Core.Path.{_≡_, sym, ap, _∙_, subst}
-use mathlib.Core.Logic.{_≢_}
-use mathlib.Core.Bool.{Bool, true, false, cond}
-use mathlib.Core.List.{List, _∷_}
-use Prim.Native.Nat.{ℕ, suc, _+_, _-_, _<_, _≤_}
-use native.Mathlib.Decide.{ℕ-discrete}
+use mathlib.Core.Bool.{cond}
+use mathlib.Core.List.{List}
+use Prim.Native.Nat.{ℕ, _+_, _-_, _<_, _≤_}
 use native.Mathlib.Omega.{arith}
 use lib.Dec.{eqb}
-use lib.ListN.{length, getD, take, set, length-set}
-use borrow.Author.Tests.{eq-eqb, ne-eqb}
+use lib.ListN.{length, getD, take}
 use Rattle.std.specs.shelf.Lists.{All, kept-by}
 use Rattle.std.proofs.shelf.Elements.{all-from-getD}
-use Rattle.std.proofs.shelf.Lists.{getD-set-same, getD-set-other, getD-take, length-take-le}
+use Rattle.std.proofs.shelf.Lists.{getD-take, length-take-le}
 use Rattle.arithmetic.specs.Laws.{Operations, Lawful, power, elements, longest}
-use Rattle.code.specs.Words.{below, coefficient, distance, syndrome, Codeword}
+use Rattle.code.specs.Words.{below, coefficient, distance, syndrome}
 use Rattle.code.specs.Polynomials.{evalMonic, dotMonic, reads, is-root, correction}
 use Rattle.code.specs.Prepared.{Vanishes}
 use Rattle.code.specs.Locating.{zero-at, restored, place-point}
@@ -27,45 +24,6 @@ vanishes-all F p at ks n h e z =
     let P : ℕ → Type 0 = λ k. evalMonic F p (power F (F .alpha) k) ≡ 0 in
     let long : length (take n at) ≡ n = length-take-le n at h in
     subst (All P) e (all-from-getD P (take n at) 0 (λ i l. let b : i < n = omega arith in subst P (sym (getD-take n at i 0 b)) (z i b)))
-
--- one place of the loop that adds the corrections: n is the length, i the coefficient
-module _ (F : Operations) (values s p old w : List ℕ) (n i : ℕ) (lo : length old ≡ n) (lw : length w ≡ n) (h : i < n)
-    (done : (k : ℕ) → k < i → coefficient w k ≡ restored F values s p old k) (left : (k : ℕ) → i ≤ k → k < n → coefficient w k ≡ coefficient old k) where
-  pub mend-yes : (v : ℕ) → v ≡ F .plus (coefficient w i) (correction F (reads s) p i) → getD values i 0 ≡ 0
-      → ((k : ℕ) → k < i + 1 → coefficient (set w (n - suc i) v) k ≡ restored F values s p old k) × ((k : ℕ) → i + 1 ≤ k → k < n → coefficient (set w (n - suc i) v) k ≡ coefficient old k)
-  mend-yes v e z = (
-    λ k b. elim (ℕ-discrete k i) [
-      | yes same ↦ subst (λ m. coefficient (set w (n - suc i) v) m ≡ restored F values s p old m) (sym same) here
-      | no other ↦ kept k other (omega arith) ∙ done k (omega arith)
-    ],
-    λ k b l. kept k (omega arith) l ∙ left k (omega arith) l,
-  )
-    where
-      long : (x : ℕ) → length (set w x v) ≡ n
-      long x = length-set w x v ∙ lw
-
-      here : coefficient (set w (n - suc i) v) i ≡ restored F values s p old i
-      here =
-          let at : length (set w (n - suc i) v) - suc i ≡ n - suc i = ap (λ m. m - suc i) (long (n - suc i)) in
-          ap (λ m. getD (set w (n - suc i) v) m 0) at ∙ getD-set-same w (n - suc i) v 0 (omega arith) ∙ e
-          ∙ ap (λ y. F .plus y (correction F (reads s) p i)) (left i (omega arith) h)
-          ∙ ap (λ b. cond b (F .plus (coefficient old i) (correction F (reads s) p i)) (coefficient old i)) (sym (eq-eqb (getD values i 0) 0 z))
-
-      kept : (k : ℕ) → k ≢ i → k < n → coefficient (set w (n - suc i) v) k ≡ coefficient w k
-      kept k d b =
-          let at : length (set w (n - suc i) v) - suc k ≡ length w - suc k = ap (λ m. m - suc k) (length-set w (n - suc i) v) in
-          let ne : length w - suc k ≢ n - suc i = omega arith in
-          ap (λ m. getD (set w (n - suc i) v) m 0) at ∙ getD-set-other w (n - suc i) (length w - suc k) v 0 ne
-
-  pub mend-no : getD values i 0 ≢ 0 → ((k : ℕ) → k < i + 1 → coefficient w k ≡ restored F values s p old k) × ((k : ℕ) → i + 1 ≤ k → k < n → coefficient w k ≡ coefficient old k)
-  mend-no z = (
-    λ k b. elim (ℕ-discrete k i) [
-      | yes same ↦ subst (λ m. coefficient w m ≡ restored F values s p old m) (sym same)
-          (left i (omega arith) h ∙ ap (λ b. cond b (F .plus (coefficient old i) (correction F (reads s) p i)) (coefficient old i)) (sym (ne-eqb (getD values i 0) 0 z)))
-      | no other ↦ done k (omega arith)
-    ],
-    λ k b l. left k (omega arith) l,
-  )
 
 module _ {F : Operations} (laws : Lawful F) (p values : List ℕ) (n : ℕ) (short : n ≤ longest) (lv : length values ≡ n)
     (at : (i : ℕ) → i < n → getD values i 0 ≡ evalMonic F p (power F (F .alpha) i)) where

@@ -1,16 +1,15 @@
 -- Places gathered, and values of a polynomial by its terms. Assumes nothing.
 use mathlib.Core.Path.{_≡_, refl, sym, ap, _∙_, subst}
-use mathlib.Core.Logic.{_≢_}
 use mathlib.Core.Bool.{Bool, true, false, cond}
 use mathlib.Core.List.{List, [], _∷_, _++_, append-assoc}
 use Prim.Native.Nat.{ℕ, zero, suc, _+_, _<_, _≤_}
-use native.Mathlib.Nat.{add-zero, add-suc, suc-add}
+use native.Mathlib.Nat.{add-zero}
 use native.Mathlib.Decide.{ℕ-discrete}
 use native.Mathlib.Omega.{arith}
 use lib.ListN.{length, getD, take, set, length-append}
 use Rattle.std.specs.shelf.Lists.{kept-by}
 use Rattle.std.proofs.shelf.Lists.{take-more-set, length-take-le, getD-set-same, getD-set-other}
-use Rattle.arithmetic.specs.Laws.{Operations, Lawful, power, elements}
+use Rattle.arithmetic.specs.Laws.{Operations, Lawful, power}
 use Rattle.code.specs.Words.{below}
 use Rattle.code.specs.Polynomials.{eval, evalMonic, total}
 use Rattle.code.specs.Locating.{Terms}

@@ -5,7 +5,7 @@ use mathlib.Core.List.{List, [], _∷_, _++_}
 use Prim.Native.Nat.{ℕ, suc, _<_, _≤_}
 use native.Mathlib.Omega.{arith}
 use lib.ListN.{length}
-use Rattle.arithmetic.specs.Laws.{Operations, Lawful, power, elements, longest}
+use Rattle.arithmetic.specs.Laws.{Operations, Lawful, elements}
 use Rattle.std.specs.shelf.Lists.{All}
 use Rattle.code.specs.Polynomials.{Apart, eval, evalMonic, quotient}
 use Rattle.code.proofs.Basic.{plus-zero-right, times-zero-right, distrib-right, plus-left-comm, times-left-comm, plus-self-left, same-of-sum-zero, zero-of-times}

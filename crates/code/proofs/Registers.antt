@@ -3,10 +3,11 @@ use mathlib.Core.Path.{_≡_, sym, ap, _∙_, refl}
 use mathlib.Core.List.{List, [], _∷_, _++_, append-assoc}
 use Prim.Native.Nat.{ℕ, zero, suc, _+_, _<_, _≤_}
 use native.Mathlib.Numerals.{add-one}
+use native.Mathlib.Decide.{decLt}
 use native.Mathlib.Omega.{arith}
 use lib.ListN.{length, getD, take, drop, set, replicate, take-append-drop}
 use lib.Seq.{take-all}
-use Rattle.std.proofs.shelf.Lists.{take-more, take-more-set, drop-set-lt, drop-more, set-split, drop-all, append-nil, length-push}
+use Rattle.std.proofs.shelf.Lists.{take-more, take-more-set, drop-set-lt, drop-more, set-split, drop-all, append-nil, length-push, getD-past, ext-getD}
 use Rattle.arithmetic.specs.Laws.{Operations, Lawful, power, elements}
 use Rattle.code.specs.Polynomials.{value, added, advanced}
 use Rattle.code.specs.Prepared.{Multiples, Divided}
@@ -51,13 +52,52 @@ module _ {F : Operations} (laws : Lawful F) where
   infixl 60 _⊕_
   infixl 70 _⊗_
   open Operations F using (plus as _⊕_, times as _⊗_)
+  open Lawful laws using (plus-self)
 
   pub divided-none : (n m : ℕ) → Divided F n [] (replicate m 0)
   divided-none n m = record { worth = λ j h. value-zeros laws (power F (F .alpha) j) m ∙ sym (times-zero-left laws _) }
 
-  length-advanced : (r row : List ℕ) → 0 < length r → length row ≡ length r → length (advanced F r row) ≡ length r
+  pub length-advanced : (r row : List ℕ) → 0 < length r → length row ≡ length r → length (advanced F r row) ≡ length r
   length-advanced [] row any e = absurd (omega arith)
   length-advanced (a ∷ r) row any e = length-added F (r ++ (0 ∷ [])) row (simp length-push (omega arith)) ∙ simp length-push (add-one (length r))
+
+  -- what stands where after a move
+  added-at : (p q : List ℕ) (i : ℕ) → length p ≡ length q → i < length p → getD (added F p q) i 0 ≡ getD p i 0 ⊕ getD q i 0
+  added-at [] q i l h = absurd (omega arith)
+  added-at (a ∷ p) [] i l h = absurd (omega arith)
+  added-at (a ∷ p) (b ∷ q) zero l h = refl
+  added-at (a ∷ p) (b ∷ q) (suc i) l h = added-at p q i (omega arith) (omega arith)
+
+  push-zero : (p : List ℕ) (i : ℕ) → getD (p ++ (0 ∷ [])) i 0 ≡ getD p i 0
+  push-zero [] zero = refl
+  push-zero [] (suc i) = refl
+  push-zero (a ∷ p) zero = refl
+  push-zero (a ∷ p) (suc i) = push-zero p i
+
+  pub advanced-at : (r row : List ℕ) (i : ℕ) → length row ≡ length r → i < length r → getD (advanced F r row) i 0 ≡ getD r (i + 1) 0 ⊕ getD row i 0
+  advanced-at [] row i l h = absurd (omega arith)
+  advanced-at (a ∷ r) row i l h =
+      let long : length (r ++ (0 ∷ [])) ≡ suc (length r) = simp length-push (add-one (length r)) in
+      added-at (r ++ (0 ∷ [])) row i (long ∙ sym l) (omega arith) ∙ ap (λ z. z ⊕ getD row i 0) (push-zero r i ∙ ap (λ n. getD (a ∷ r) n 0) (sym (add-one i)))
+
+  -- what stands where after two moves
+  twice-at : (r p q : List ℕ) (i : ℕ) → length p ≡ length r → length q ≡ length r → i < length r → getD (advanced F (advanced F r p) q) i 0 ≡ getD r (i + 2) 0 ⊕ getD p (i + 1) 0 ⊕ getD q i 0
+  twice-at r p q i lp lq h =
+      let some : 0 < length r = omega arith in
+      let long : length (advanced F r p) ≡ length r = length-advanced r p some lp in
+      advanced-at (advanced F r p) q i (lq ∙ sym long) (omega arith) ∙ ap (λ z. z ⊕ getD q i 0) (elim (decLt (i + 1) (length r)) [
+        | yes b ↦ advanced-at r p (i + 1) lp b ∙ (let n : i + 1 + 1 ≡ i + 2 = omega arith in ap (λ m. getD r m 0 ⊕ getD p (i + 1) 0) n)
+        | no b ↦ getD-past (advanced F r p) (i + 1) 0 (omega arith) ∙ sym (plus-self 0)
+            ∙ ap (λ z. z ⊕ 0) (sym (getD-past r (i + 2) 0 (omega arith))) ∙ ap (λ z. getD r (i + 2) 0 ⊕ z) (sym (getD-past p (i + 1) 0 (omega arith)))
+      ])
+
+  pub twice-all : (r p q new : List ℕ) → length p ≡ length r → length q ≡ length r → length new ≡ length r → 0 < length r
+      → ((i : ℕ) → i < length r → getD new i 0 ≡ getD r (i + 2) 0 ⊕ getD p (i + 1) 0 ⊕ getD q i 0) → new ≡ advanced F (advanced F r p) q
+  twice-all r p q new lp lq ln some e =
+      let once : length (advanced F r p) ≡ length r = length-advanced r p some lp in
+      let more : 0 < length (advanced F r p) = omega arith in
+      let long : length (advanced F (advanced F r p) q) ≡ length r = length-advanced (advanced F r p) q more (lq ∙ sym once) ∙ once in
+      ext-getD 0 new (advanced F (advanced F r p) q) (ln ∙ sym long) (λ i h. let b : i < length r = omega arith in e i b ∙ sym (twice-at r p q i lp lq b))
 
   -- one more symbol of the message
   pub divided-more : (n : ℕ) (rows : List (List ℕ)) (message register : List ℕ) (i k : ℕ) → Multiples F n rows → i < length message → length register ≡ n → 0 < n → k < elements

@@ -15,9 +15,6 @@ module _ {F : Operations} (laws : Lawful F) where
   repaired-same w h = record { word = h .word; codeword = h; count = sym (distance-self w); near = omega arith; only = λ v hv near. sym (uniquely laws w v h hv (omega arith)) }
 
   module _ (w u : List ℕ) (hw : Word w) (only : (v : List ℕ) → Codeword F v → distance w v ≤ reach → v ≡ u) where
-    pub repaired : (n : ℕ) → Codeword F u → n ≡ distance w u → n ≤ reach → Repaired F w u n
-    repaired n hu e near = record { word = hw; codeword = hu; count = e; near = near; only = only }
-
     pub astray-far : (n : ℕ) → n ≡ distance w u → reach < n → Astray F w
     astray-far n e far = record { word = hw; none = λ v hv near. let same : distance w v ≡ distance w u = ap (distance w) (only v hv near) in omega arith }
 

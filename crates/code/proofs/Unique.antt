@@ -1,20 +1,18 @@
 -- Two words of the code that differ in few places are one. Assumes nothing.
-use mathlib.Core.Path.{_≡_, refl, sym, ap, _∙_, subst}
+use mathlib.Core.Path.{_≡_, refl, sym, ap, _∙_}
 use mathlib.Core.Logic.{_≢_, _⊎_, inl, inr}
 use mathlib.Core.Bool.{Bool, true, false, cond}
 use mathlib.Core.List.{List, [], _∷_}
 use Prim.Native.Nat.{ℕ, zero, suc, _-_, _*_, _<_, _≤_}
-use native.Mathlib.Decide.{ℕ-discrete}
 use native.Mathlib.Omega.{arith}
 use lib.ListN.{length, getD}
 use Rattle.arithmetic.specs.Laws.{Operations, Lawful, power, elements, longest}
 use Rattle.std.specs.shelf.Lists.{All, kept-by}
-use borrow.Author.Tests.{eqb-true, eqb-false, not-true, not-false}
 use Rattle.std.proofs.shelf.Elements.{all-kept-by}
 use Rattle.std.proofs.shelf.Lists.{ext-getD}
 use Rattle.code.specs.Words.{coefficient, below, distance, sum, syndrome}
 use Rattle.code.specs.Polynomials.{Apart, moment}
-use Rattle.code.proofs.Distances.{differs, same-at, other-at, distance-places, all-below, below-all}
+use Rattle.code.proofs.Distances.{differs, same-at, distance-places, all-below, below-all}
 use Rattle.code.proofs.Basic.{zero-plus, one-times, plus-zero-left, times-zero-left, distrib-right, same-of-sum-zero, power-below, power-power}
 use Rattle.code.proofs.Moments.{sum-below, sum-same, sum-plus, separate}
 

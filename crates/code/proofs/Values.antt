@@ -4,7 +4,7 @@ use mathlib.Core.List.{List, [], _∷_, _++_}
 use Prim.Native.Nat.{ℕ, zero, suc, _+_, _-_, _*_, _<_}
 use native.Mathlib.Omega.{arith}
 use lib.ListN.{length, getD, take, drop, set, replicate, length-append, length-drop}
-use Rattle.arithmetic.specs.Laws.{Operations, Lawful, power, elements, longest}
+use Rattle.arithmetic.specs.Laws.{Operations, Lawful, power, elements}
 use Rattle.code.specs.Words.{coefficient, below, sum, syndrome}
 use Rattle.code.specs.Polynomials.{value, eval, evalMonic, added, advanced}
 use Rattle.code.proofs.Basic.{plus-zero-left, plus-zero-right, times-one-right, times-zero-right, times-zero-left, distrib-right, plus-left-comm, times-left-comm, same-of-sum-zero, power-below, power-add, power-power}

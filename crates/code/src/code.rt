@@ -16,6 +16,10 @@ use crate::register::is_codeword;
 use crate::register::is_zero;
 use crate::register::remainder;
 use crate::shapes::Tables;
+use crate::sizes::ELEMENTS;
+use crate::sizes::MESSAGE;
+use crate::sizes::REACH;
+use crate::sizes::SYMBOLS;
 use crate::sure::Sure;
 use crate::syndromes::syndromes;
 use crate::tables::generator;
@@ -58,7 +62,7 @@ fn first_too_large(word: &[u16]) -> usize
     ensures found { λ r. ⌜ (r < length (now (word .entry)) → elements ≤ getD (now (word .entry)) r 0) ⌝ }
 {
     for (i, symbol) in word.iter().enumerate() {
-        if *symbol > 511 {
+        if *symbol as usize >= ELEMENTS {
             return i;
         }
     }
@@ -69,11 +73,11 @@ fn first_too_large(word: &[u16]) -> usize
 fn check(word: &[u16]) -> Result<(), CodeFault>
     ensures { λ r. ⌜ Cases r (λ _. Word (now (word .entry))) (λ e. Misshapen (now (word .entry)) (code-refusal e)) ⌝ }
 {
-    if word.len() != 450 {
+    if word.len() != SYMBOLS {
         return Err(CodeFault::Length);
     }
     let place = first_too_large(word);
-    if place < 450 {
+    if place < SYMBOLS {
         return Err(CodeFault::SymbolTooLarge { place });
     }
     Ok(())
@@ -108,8 +112,8 @@ impl<A: Arithmetic> Code<A> {
     {
         self.known();
         check(word)?;
-        let register = divide(&self.arithmetic, &self.tables.rows, &word[..406]);
-        word[406..].copy_from_slice(&register);
+        let register = divide(&self.arithmetic, &self.tables.rows, &word[..MESSAGE]);
+        word[MESSAGE..].copy_from_slice(&register);
         Ok(())
     }
 
@@ -126,9 +130,15 @@ impl<A: Arithmetic> Code<A> {
             return Ok(0);
         }
         let s = syndromes(&self.arithmetic, &self.tables.steps, &left);
-        let mended = candidate(&self.arithmetic, &self.tables.points, &self.tables.steps, &s, word);
+        let mended = candidate(
+            &self.arithmetic,
+            &self.tables.points,
+            &self.tables.steps,
+            &s,
+            word,
+        );
         let changed = changes(word, &mended);
-        if changed > 22 {
+        if changed > REACH {
             return Err(CodeFault::BeyondRepair);
         }
         if !is_codeword(&self.arithmetic, &self.tables.rows, &mended) {

@@ -7,6 +7,7 @@ mod mending;
 mod register;
 mod roots;
 mod shapes;
+mod sizes;
 mod sure;
 mod syndromes;
 mod tables;

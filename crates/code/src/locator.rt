@@ -9,6 +9,8 @@ ghost use Rattle.code.specs.Polynomials.{dotMonic, plusMonic, reads};
 ghost use Rattle.code.specs.Locating.{poly, Found};
 use crate::shapes::Monic;
 use crate::shapes::Recurrence;
+use crate::sizes::PARITY;
+use crate::sizes::REACH;
 use arithmetic::Arithmetic;
 
 /// The coefficients of a monic polynomial against the numbers of s from the place j.
@@ -67,7 +69,7 @@ pub(crate) fn raised(p: &Monic, by: usize) -> Monic
     ensures degree { λ r. ⌜ r .degree ≡ by + now (p .entry) .degree ⌝ }
     ensures shifted { λ r. ⌜ poly r ≡ replicate by 0 ++ poly (now (p .entry)) ⌝ }
 {
-    let mut low = [0u16; 22];
+    let mut low = [0u16; REACH];
     for i in 0..p.degree {
         low[by + i] = p.low[i];
     }
@@ -78,7 +80,7 @@ pub(crate) fn raised(p: &Monic, by: usize) -> Monic
 }
 
 /// One step of the search: one more window is annulled, or the degree grows.
-pub(crate) fn step<A: Arithmetic>(a: &A, s: &[u16; 44], r: Recurrence) -> Recurrence
+pub(crate) fn step<A: Arithmetic>(a: &A, s: &[u16; PARITY], r: Recurrence) -> Recurrence
     requires fits { ⌜ ((i : ℕ) → reads (now s) i < elements) ⌝ }
     requires found { ⌜ Found (A·Arithmetic .field (now a)) (now s) r ⌝ }
     requires open { ⌜ r .windows < reach ⌝ }
@@ -114,14 +116,14 @@ pub(crate) fn step<A: Arithmetic>(a: &A, s: &[u16; 44], r: Recurrence) -> Recurr
 }
 
 /// A monic polynomial of degree 22 at most that annuls the first 22 windows of the sums.
-pub(crate) fn locator<A: Arithmetic>(a: &A, s: &[u16; 44]) -> Monic
+pub(crate) fn locator<A: Arithmetic>(a: &A, s: &[u16; PARITY]) -> Monic
     requires { ⌜ ((i : ℕ) → reads (now s) i < elements) ⌝ }
     ensures small { λ r. ⌜ r .degree ≤ reach ⌝ }
     ensures annuls { λ r. ⌜ ((j : ℕ) → j < reach → dotMonic (A·Arithmetic .field (now (a .entry))) (poly r) (reads (now (s .entry))) j ≡ 0) ⌝ }
 {
     let one = Monic {
         degree: 0,
-        low: [0; 22],
+        low: [0; REACH],
     };
     let mut r = Recurrence {
         current: one,
@@ -129,7 +131,7 @@ pub(crate) fn locator<A: Arithmetic>(a: &A, s: &[u16; 44]) -> Monic
         previous: one,
         scale: 1,
     };
-    while r.windows < 22 {
+    while r.windows < REACH {
         r = step(a, s, r);
     }
     r.current

@@ -13,13 +13,16 @@ use crate::roots::places;
 use crate::roots::product_over;
 use crate::roots::values;
 use crate::shapes::Monic;
+use crate::sizes::ELEMENTS;
+use crate::sizes::PARITY;
+use crate::sizes::SYMBOLS;
 use arithmetic::Arithmetic;
 
 /// What is to be added at the place i, where p is the product over all suspected places.
 pub(crate) fn correction<A: Arithmetic>(
     a: &A,
-    points: &[u16; 450],
-    s: &[u16; 44],
+    points: &[u16; SYMBOLS],
+    s: &[u16; PARITY],
     p: &Monic,
     i: usize,
 ) -> u16
@@ -46,10 +49,10 @@ pub(crate) fn correction<A: Arithmetic>(
 /// Adds the corrections where the values are zero.
 pub(crate) fn mend<A: Arithmetic>(
     a: &A,
-    points: &[u16; 450],
-    values: &[u16; 450],
+    points: &[u16; SYMBOLS],
+    values: &[u16; SYMBOLS],
     p: &Monic,
-    s: &[u16; 44],
+    s: &[u16; PARITY],
     word: &mut [u16],
 )
     requires powers { ⌜ Powers (A·Arithmetic .field (now a)) (now points) ⌝ }
@@ -60,10 +63,10 @@ pub(crate) fn mend<A: Arithmetic>(
     ensures fits { λ _. ⌜ ((k : ℕ) → getD (now (word .exit)) k 0 < elements) ⌝ }
     ensures right { λ _. ⌜ ((i : ℕ) → i < word-length → coefficient (now (word .exit)) i ≡ restored (A·Arithmetic .field (now (a .entry))) (now (values .entry)) (now (s .entry)) (poly (now (p .entry))) (now (word .entry)) i) ⌝ }
 {
-    for i in 0..450usize {
+    for i in 0..SYMBOLS {
         if values[i] == 0 {
             let change = correction(a, points, s, p, i);
-            word[449 - i] = a.sum(word[449 - i], change);
+            word[SYMBOLS - 1 - i] = a.sum(word[SYMBOLS - 1 - i], change);
         }
     }
 }
@@ -85,11 +88,11 @@ pub(crate) fn changes(u: &[u16], v: &[u16]) -> usize
 /// A word that is the codeword within 22 places, if there is one.
 pub(crate) fn candidate<A: Arithmetic>(
     a: &A,
-    points: &[u16; 450],
-    steps: &[[u16; 512]; 44],
-    s: &[u16; 44],
+    points: &[u16; SYMBOLS],
+    steps: &[[u16; ELEMENTS]; PARITY],
+    s: &[u16; PARITY],
     word: &[u16],
-) -> [u16; 450]
+) -> [u16; SYMBOLS]
     requires powers { ⌜ Powers (A·Arithmetic .field (now a)) (now points) ⌝ }
     requires steps { ⌜ Steps (A·Arithmetic .field (now a)) parity (now steps) ⌝ }
     requires word { ⌜ Word (now word) ⌝ }
@@ -102,7 +105,7 @@ pub(crate) fn candidate<A: Arithmetic>(
     let values = values(a, steps, &p);
     let places = places(&values);
     let product = product_over(a, points, &places);
-    let mut mended = [0u16; 450];
+    let mut mended = [0u16; SYMBOLS];
     mended.copy_from_slice(word);
     mend(a, points, &values, &product, s, &mut mended);
     mended

@@ -9,7 +9,7 @@ use arithmetic::Arithmetic;
 use std::marker::PhantomData;
 
 /// Exists only where the tables are those of the arithmetic. It takes no bytes.
-pub struct Sure<A: Arithmetic> {
+pub(crate) struct Sure<A: Arithmetic> {
     marker: PhantomData<A>,
     ghost of: { A },
     ghost points: { List ℕ },
@@ -31,8 +31,7 @@ impl<A: Arithmetic> Sure<A> {
 
     pub(crate) fn know(&self)
         ensures { λ _. ⌜ Right (A·Arithmetic .field) (now (self .entry) .of) (now (self .entry) .points) (now (self .entry) .rows) (now (self .entry) .steps) ⌝ }
-    {
-    }
+    {}
 }
 
 impl<A: Arithmetic> Drop for Sure<A> {

@@ -19,7 +19,7 @@ use Rattle.codec.specs.declared.report.Report.{Report}
 use Rattle.codec.specs.declared.request.Outcome.{Outcome}
 use Rattle.codec.specs.declared.request.Outcome.the-variants.{Accepted}
 use Rattle.codec.proofs.Answered.{received, sent, sound}
-use Rattle.codec.proofs.Checks.{Sendable, sendable}
+use Rattle.codec.proofs.Faulted.{Sendable, sendable}
 
 abbrev pub clean : ℕ → ℕ → Report
 clean symbol places = record { symbol = symbol; places = places; invalid = 0; fault = None }

@@ -9,6 +9,8 @@ use lib.IntN.{ℤ, pos}
 use lib.ListN.{length, take, replicate}
 use Rattle.std.specs.Of.Vec.{vec-items}
 use Rattle.std.specs.shelf.Lists.{joined, leading}
+use Rattle.std.specs.declared.option.Option.{Option}
+use Rattle.std.specs.declared.option.Option.the-variants.{None, Some}
 use Rattle.std.specs.declared.result.Result.{Result}
 use Rattle.std.specs.declared.result.Result.the-variants.{Ok, Err}
 use Rattle.refusal.specs.declared.kinds.Refusal.{Refusal}
@@ -16,7 +18,8 @@ use Rattle.blocks.specs.declared.faults.BlockFault.{BlockFault}
 use Rattle.code.specs.Words.{Codeword}
 use Rattle.code.specs.declared.fault.CodeFault.{CodeFault}
 use Rattle.lines.specs.LineCodes.{is-line-symbol}
-use Rattle.codec.specs.Ends.{End}
+use Rattle.arithmetic.specs.Laws.{Operations}
+use Rattle.codec.specs.Ends.{End, made-over}
 use Rattle.codec.specs.Frames.{message-of, symbol-of}
 use Rattle.codec.specs.Lines.{Near, None-near, line-frame, differing, apart, padded}
 use Rattle.codec.specs.Locks.{next-lock}
@@ -27,6 +30,8 @@ use Rattle.codec.specs.declared.faults.EndFault.{EndFault}
 use Rattle.codec.specs.declared.lock.Lock.{Lock}
 use Rattle.codec.specs.declared.lock.Lock.the-variants.{Locked, Lost}
 use Rattle.codec.specs.declared.lock.FrameOutcome.{FrameOutcome}
+use Rattle.codec.specs.declared.ends.Sender.{Sender}
+use Rattle.codec.specs.declared.ends.Receiver.{Receiver}
 use Rattle.codec.specs.declared.report.Report.{Report}
 use Rattle.codec.specs.declared.request.Request.{Request}
 use Rattle.codec.specs.declared.request.Request.the-variants.{Send, SenderRest, Receive, ReceiverRest}
@@ -80,6 +85,11 @@ checks lock receiver-rest = without-lock lock ∷ []
 
 unfoldable pub faults : Lock → Call → List EndFault
 faults lock call = joined (λ found. found) (checks lock call)
+
+-- the first of the faults found
+abbrev pub first-of : List EndFault → Option EndFault
+first-of [] = None
+first-of (fault ∷ more) = Some fault
 
 abbrev pub beyond-repair : EndFault
 beyond-repair = EndFault.Code CodeFault.BeyondRepair
@@ -149,6 +159,13 @@ content (Send characters symbol line) = send (vec-items characters) symbol (vec-
 content (SenderRest line) = sender-rest (vec-items line)
 content (Receive line characters places) = receive (vec-items line) (vec-items characters) (vec-items places)
 content ReceiverRest = receiver-rest
+
+-- what a request or a call of an end is about, from the end's parts
+abbrev pub sender-end : {A S L : Type 0} → (A → Operations) → (S → ℕ → ℕ) → (L → ℕ → ℤ × ℤ) → Sender A S L → End
+sender-end field mask pair end = made-over (field (end .code .arithmetic)) (mask (end .stream)) (pair (end .«line_code»))
+
+abbrev pub receiver-end : {A S L : Type 0} → (A → Operations) → (S → ℕ → ℕ) → (L → ℕ → ℤ × ℤ) → Receiver A S L → End
+receiver-end field mask pair end = made-over (field (end .code .arithmetic)) (mask (end .stream)) (pair (end .«line_code»))
 
 -- the outcome of a send or a rest, and of a receive
 abbrev pub done : {X : Type 0} → Result X EndFault → Outcome

@@ -1,11 +1,13 @@
 -- What a reader makes of a line, group by group. Assumes nothing.
 use mathlib.Core.Path.{_≡_}
-use mathlib.Core.Bool.{Bool, true, false}
-use mathlib.Core.List.{List}
-use Prim.Native.Nat.{ℕ, _<_}
+use mathlib.Core.Bool.{Bool, true, false, not, _||_}
+use mathlib.Core.List.{List, [], _∷_}
+use Prim.Native.Nat.{ℕ, zero, suc, _+_, _<_, _≤_}
 use lib.Bits.{bitXor}
+use lib.Dec.{eqb}
 use lib.IntN.{ℤ}
 use lib.ListN.{length, getD}
+use Rattle.std.specs.shelf.Lists.{kept-by}
 use Rattle.std.specs.declared.option.Option.{Option}
 use Rattle.std.specs.declared.option.Option.the-variants.{Some, None}
 use Rattle.codec.specs.Ends.{End}
@@ -29,6 +31,26 @@ pub record Hears (pair : ℕ → ℤ × ℤ) (mask : ℕ → ℕ) (line : List �
   pub symbols : length (heard .symbols) ≡ 450
   pub marks : length (heard .unread) ≡ 450
   pub groups : (k : ℕ) → k < 450 → Heard-group pair (mask k) (group line k) (getD (heard .symbols) k 0) (getD (heard .unread) k false)
+
+-- n numbers upwards from k
+unfoldable pub upward : ℕ → ℕ → List ℕ
+upward k zero = []
+upward k (suc n) = k ∷ upward (k + 1) n
+
+-- whether a group was unread, or heard as another symbol than the word's
+abbrev pub is-misheard : Heard → List ℕ → ℕ → Bool
+is-misheard heard word k = getD (heard .unread) k false || not (eqb (getD (heard .symbols) k 0) (getD word k 0))
+
+-- such groups, ascending
+unfoldable pub misheard : Heard → List ℕ → List ℕ
+misheard heard word = kept-by (is-misheard heard word) (upward 0 450)
+
+-- a word with all groups, at most 22, that were misheard
+pub record Places-listed (heard : Heard) (word : List ℕ) (mended : Mended) : Type 0 where
+  pub same : mended .word ≡ word
+  pub count : mended .count ≡ length (misheard heard word)
+  pub few : length (misheard heard word) ≤ 22
+  pub places : mended .places ≡ padded (misheard heard word)
 
 -- the one codeword near a line, and the groups that differ from its line frame
 pub record Mends (end : End) (line : List ℤ) (mended : Mended) : Type 0 where

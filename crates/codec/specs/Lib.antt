@@ -7,6 +7,8 @@ pub mod Refusals
 pub mod Reports
 pub mod Numbering
 pub mod Calls
+pub mod Checking
 pub mod Histories
+pub mod Turning
 pub mod Law
 pub mod Worked

@@ -4,6 +4,9 @@ ghost use mathlib.Core.Bool.{true, false};
 ghost use mathlib.Core.List.{reverse};
 ghost use Prim.Native.Nat.{ℕ, _%_, _<_};
 ghost use Rattle.std.specs.declared.result.Result.the-variants.{Ok, Err};
+ghost use Rattle.refusal.specs.Refusals.{refusal};
+ghost use Rattle.refusal.specs.declared.kinds.Layer.{Layer};
+ghost use Rattle.lines.specs.Making.{making-refusal};
 ghost use Rattle.blocks.specs.Bits.{bits, number};
 ghost use Rattle.lines.specs.Scramblers.{is-state, state-after, scrambler-mask};
 use crate::making::MakingFault;
@@ -25,8 +28,8 @@ pub struct Scrambler {
 
 impl Scrambler {
     /// Starts at a seed of 1 to 32,767.
-    pub(crate) fn new(role: Role, seed: u16) -> Result<Scrambler, MakingFault>
-        ensures starts_at_the_seed { λ r. ⌜ elim r [ Ok s ↦ (is-state seed ≡ true) × (s .role ≡ role) × (s .state ≡ seed) | Err fault ↦ (is-state seed ≡ false) × (fault ≡ MakingFault.Seed) ] ⌝ }
+    pub fn new(role: Role, seed: u16) -> Result<Scrambler, MakingFault>
+        ensures starts_at_the_seed { λ r. ⌜ elim r [ Ok s ↦ (is-state seed ≡ true) × (s .role ≡ role) × (s .state ≡ seed) | Err fault ↦ (is-state seed ≡ false) × (making-refusal fault ≡ refusal 1 Layer.Making 0) ] ⌝ }
     {
         if seed == 0 || seed > LARGEST_STATE {
             return Err(MakingFault::Seed);

@@ -5,7 +5,6 @@ use native.Mathlib.Omega.{arith}
 use lib.ListN.{length, getD, length-take}
 use borrow.Author.Tests.{eq-eqb}
 use Rattle.std.proofs.shelf.Lists.{length-take-le}
-use Rattle.code.specs.Words.{coefficient}
 use Rattle.code.specs.Locating.{poly, found, zero-at, restored}
 use Rattle.code.proofs.Places.{kept-some}
 use Rattle.code.proofs.Nearest.{few-zeros, nearest, zeros-roots, vanishes-all}

@@ -1,10 +1,9 @@
-use mathlib.Core.Path.{_≡_, refl, sym, ap, _∙_}
-use Prim.Native.Nat.{_-_, _≤_}
+use mathlib.Core.Path.{_≡_, sym, ap, _∙_}
+use Prim.Native.Nat.{_-_}
 use native.Mathlib.Omega.{arith}
 use lib.ListN.{length, getD, drop}
 use Rattle.std.proofs.shelf.Lists.{length-take-le, getD-take}
-use Rattle.code.specs.Polynomials.{evalMonic, dotMonic, quotient, reads, correction}
-use Rattle.arithmetic.specs.Laws.{power}
+use Rattle.code.specs.Polynomials.{evalMonic, dotMonic, quotient, reads}
 use Rattle.code.specs.Locating.{poly}
 use Rattle.code.proofs.Corrections.{divides-none, divides-more}
 use Rattle.code.proofs.mending.correction.Needs as need

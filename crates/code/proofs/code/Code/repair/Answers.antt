@@ -1,13 +1,10 @@
-use mathlib.Core.Path.{refl, sym, _∙_, subst}
-use mathlib.Core.List.{List}
-use Prim.Native.Nat.{ℕ}
+use mathlib.Core.Path.{refl, sym, _∙_}
 use native.Mathlib.Omega.{arith}
 use Rattle.std.proofs.shelf.Results.{err-from-errBy}
-use Rattle.code.specs.Outcomes.{Repaired}
 use Rattle.code.specs.Outcomes.Irreparable.{no-word, beyond}
 use Rattle.code.proofs.Values.{syndrome-value}
 use Rattle.code.proofs.Completion.{zero-codeword}
-use Rattle.code.proofs.Repairs.{repaired-same, repaired, astray-far, astray-not}
+use Rattle.code.proofs.Repairs.{repaired-same, astray-far, astray-not}
 use Rattle.code.proofs.code.Code.repair.Needs as need
 
 pub returns-in-Break-check : need.returns-in-Break-check
@@ -32,12 +29,12 @@ candidate-mended-requires g c κs =
       right = λ j h. c .syndromes-s .ensures .right j h ∙ c .remainder-left .ensures .right j h ∙ sym (syndrome-value laws (c .args .word .now) j);
     }
 
-pub returns-then-changed-gt22 : need.returns-then-changed-gt22
-returns-then-changed-gt22 g c =
+pub returns-then-changed-gt-REACH : need.returns-then-changed-gt-REACH
+returns-then-changed-gt-REACH g c =
     let laws = g .A·Arithmetic·met .lawful (c .args .self .now .arithmetic) in
     record {
       repairs = record {
-        why = beyond (astray-far laws (c .args .word .now) (c .candidate-mended .result) (c .in-Continue-check .ensures tt) (c .candidate-mended .ensures .only) (c .changes-changed .result) (c .changes-changed .ensures) (c .if-changed-gt22 .taken));
+        why = beyond (astray-far laws (c .args .word .now) (c .candidate-mended .result) (c .in-Continue-check .ensures tt) (c .candidate-mended .ensures .only) (c .changes-changed .result) (c .changes-changed .ensures) (c .if-changed-gt-REACH .taken));
         same = refl;
       };
     }

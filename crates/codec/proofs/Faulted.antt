@@ -16,11 +16,14 @@ use Rattle.std.specs.declared.option.Option.the-variants.{Some, None}
 use Rattle.blocks.specs.Characters.{Character, Characters, First-no-character}
 use Rattle.blocks.specs.declared.faults.BlockFault.{BlockFault}
 use Rattle.lines.specs.LineCodes.{is-line-symbol}
-use Rattle.codec.specs.Calls.{Call, send, sender-rest, receive, receiver-rest, is-character, fault-if, without-lock, wrong-length, wrong-number, faults}
+use Rattle.codec.specs.Calls.{Call, send, sender-rest, receive, receiver-rest, is-character, fault-if, without-lock, wrong-length, wrong-number, faults, first-of}
 use Rattle.codec.specs.declared.lock.Lock.{Lock}
 use Rattle.codec.specs.declared.lock.Lock.the-variants.{Locked, Lost}
 use Rattle.codec.specs.declared.faults.LineFault.{LineFault}
 use Rattle.codec.specs.declared.faults.EndFault.{EndFault}
+
+abbrev pub Starts : List EndFault → EndFault → Type 0
+Starts found fault = first-of found ≡ Some fault
 
 -- characters by test
 
@@ -113,6 +116,49 @@ sendable lock characters symbol line e =
       valid = all-leading characters (ltb-false (leading is-character characters) (length characters) (unpassed (ltb (leading is-character characters) (length characters)) (EndFault.Block (BlockFault.NoCharacter (leading is-character characters))) (left-none d [] ds)));
     }
 
+-- what a sender's rest and a receive without a fault are given
+
+pub rest-room : (lock : Lock) (line : List ℤ) → faults lock (sender-rest line) ≡ [] → length line ≡ 2700
+unfolding faults
+rest-room lock line e = right-length 0 2700 line (left-none (wrong-length 0 2700 line) [] e)
+
+pub record Receivable (lock : Lock) (line : List ℤ) (characters places : List ℕ) : Type 0 where
+  pub locked : lock ≡ Lost → ⊥
+  pub full : length line ≡ 2700
+  pub room : length characters ≡ 450
+  pub places-room : length places ≡ 22
+
+has-lock : (lock : Lock) → without-lock lock ≡ [] → lock ≡ Lost → ⊥
+has-lock (Locked bad) e l = let z : _≡_ {A = ℕ} 0 1 = cc in omega arith
+has-lock Lost e l = let z : _≡_ {A = ℕ} 0 1 = cc in omega arith
+
+pub receivable : (lock : Lock) (line : List ℤ) (characters places : List ℕ) → faults lock (receive line characters places) ≡ [] → Receivable lock line characters places
+unfolding faults
+receivable lock line characters places e =
+    let a = without-lock lock in
+    let b = wrong-length 0 2700 line in
+    let c = wrong-length 1 450 characters in
+    let d = wrong-length 2 22 places in
+    let f = wrong-number is-line-symbol (λ place. EndFault.Line (LineFault.NoLineSymbol place)) line in
+    let bs : b ++ (c ++ (d ++ (f ++ []))) ≡ [] = right-none a (b ++ (c ++ (d ++ (f ++ [])))) e in
+    let cs : c ++ (d ++ (f ++ [])) ≡ [] = right-none b (c ++ (d ++ (f ++ []))) bs in
+    let ds : d ++ (f ++ []) ≡ [] = right-none c (d ++ (f ++ [])) cs in
+    record {
+      locked = has-lock lock (left-none a (b ++ (c ++ (d ++ (f ++ [])))) e);
+      full = right-length 0 2700 line (left-none b (c ++ (d ++ (f ++ []))) bs);
+      room = right-length 1 450 characters (left-none c (d ++ (f ++ [])) cs);
+      places-room = right-length 2 22 places (left-none d (f ++ []) ds);
+    }
+
+pub receiver-rest-found : (lock : Lock) → (lock ≡ Lost → ⊥) → faults lock receiver-rest ≡ []
+unfolding faults
+receiver-rest-found (Locked bad) n = refl
+receiver-rest-found Lost n = absurd (n refl)
+
+pub receiver-rest-lost : Starts (faults Lost receiver-rest) EndFault.NoLock
+unfolding faults
+receiver-rest-lost = refl
+
 -- the first fault of a call, check by check
 
 length-right : {X : Type 0} (buffer right : ℕ) (xs : List X) → length xs ≡ right → wrong-length buffer right xs ≡ []
@@ -127,12 +173,6 @@ numbers-right kind fault xs e = ap (λ b. fault-if b (fault (leading kind xs))) 
 number-wrong : {X : Type 0} (kind : X → Bool) (fault : ℕ → EndFault) (xs : List X) (place : ℕ) → leading kind xs ≡ place → place < length xs → wrong-number kind fault xs ≡ fault place ∷ []
 number-wrong kind fault xs place e h = ap (λ b. fault-if b (fault (leading kind xs))) (lt-ltb (leading kind xs) (length xs) (omega arith)) ∙ ap (λ p. fault p ∷ []) e
 
-abbrev pub head-of : List EndFault → Option EndFault
-head-of [] = None
-head-of (fault ∷ more) = Some fault
-
-abbrev pub Starts : List EndFault → EndFault → Type 0
-Starts found fault = head-of found ≡ Some fault
 
 module _ (lock : Lock) (characters : List ℕ) (symbol : ℕ) (line : List ℤ) where
   abbrev asked : List EndFault
