@@ -1,5 +1,6 @@
 //! The line codec: what the layers below publish, under one name.
 mod checks;
+mod end_refusals;
 mod ends;
 mod exchanges;
 mod faults;
