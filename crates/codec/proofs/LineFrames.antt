@@ -1,26 +1,26 @@
 -- Line frames of all periods: length, symbols, one word for each, at most one near, equal where ends agree. Assumes nothing.
 use mathlib.Core.Path.{_≡_, refl, sym, ap, _∙_, subst}
-use mathlib.Core.Bool.{Bool, true, false, cond, not, _||_}
+use mathlib.Core.Bool.{Bool, true, false, not, _||_}
 use mathlib.Core.List.{List, [], _∷_, _++_}
 use Prim.Native.Nat.{ℕ, zero, suc, _+_, _*_, _/_, _%_, _<_, _≤_}
 use native.Mathlib.Omega.{arith}
-use borrow.Author.Tests.{eqb-true, eqb-false, not-true, not-false}
+use borrow.Author.Tests.{eqb-false, not-true}
 use lib.Bits.{bitXor}
-use lib.Dec.{T, eqb}
+use lib.Dec.{T}
 use lib.IntN.{ℤ}
 use lib.ListN.{length, getD}
 use Rattle.std.specs.shelf.Lists.{kept-by, leading}
 use Rattle.std.proofs.shelf.Lists.{ext-getD}
-use Rattle.arithmetic.specs.Laws.{Operations, Lawful, power, elements}
+use Rattle.arithmetic.specs.Laws.{Operations, Lawful, power}
 use Rattle.arithmetic.specs.Laws as laws
-use Rattle.code.specs.Words.{distance, below, coefficient, sum, syndrome, parity, Word, Codeword}
+use Rattle.code.specs.Words.{distance, below, coefficient, sum, Word, Codeword}
 use Rattle.code.proofs.Completion.{uniquely}
 use Rattle.lines.specs.LineCodes.{is-line-symbol, Line-pair, Line-codes-agree}
 use Rattle.lines.specs.Scramblers.{Streams-agree}
 use Rattle.codec.specs.Ends.{End, Agree}
-use Rattle.codec.specs.Lines.{line-group, line-from, line-frame, same, group, differing, apart, Near}
+use Rattle.codec.specs.Lines.{line-group, line-from, line-frame, same, group, apart, Near}
 use Rattle.codec.specs.Hearing.{upward}
-use Rattle.codec.proofs.Groups.{Distinct, Ternary, six-of, group-is, same-equal, same-self, scrambled-same}
+use Rattle.codec.proofs.Groups.{Distinct, Ternary, group-is, same-equal, same-self, scrambled-same}
 use Rattle.codec.proofs.Apart.{length-from, group-from, group-differs, differing-kept, symbol-differs, distance-kept, kept-upward, kept-cover, kept-none}
 
 -- no group of a line differs from itself
@@ -89,6 +89,10 @@ module _ (end : End) (distinct : Distinct (end .pair)) (small : (k : ℕ) → en
       one false b e f h d = refl
       one true false e f h d = refl
       one true true {i} e f h d = absurd (eqb-false _ _ (not-true _ d) (symbols-same i h (sym (same-equal _ _ e) ∙ same-equal _ _ f)))
+
+-- a codeword is near its own line frame
+pub near-itself : (end : End) (period : ℕ) (word : List ℕ) → Codeword (end .field) word → Near end period (line-frame end period word) word
+near-itself end period word c = record { codeword = c; within = omega (arith, apart-self (line-frame end period word)) }
 
 -- at most one codeword is near a line
 pub near-unique : (end : End) → Lawful (end .field) → Distinct (end .pair) → ((k : ℕ) → end .mask k < 512) → (period : ℕ) (line : List ℤ) (word other : List ℕ)

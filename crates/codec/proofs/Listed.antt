@@ -64,8 +64,7 @@ listing-none t =
 pub listing-yes : (t : ℕ → Bool) (k : ℕ) (places : List ℕ) (count : ℕ) → t k ≡ true → count ≢ 22 → Listing t k places count → Listing t (k + 1) (set places count k) (count + 1)
 listing-yes t k places count e n (written, many, few) =
     let kept = kept-by t (upward 0 k) in
-    let more = kept-yes t k e in
-    (
+    let more = kept-yes t k e in (
       ap (λ l. set l count k) written ∙ ap (λ m. set (padded kept) m k) many ∙ padded-push kept k (omega arith) ∙ ap padded (sym more),
       omega (arith, ap length more, length-push kept k),
       omega arith,

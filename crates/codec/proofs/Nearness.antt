@@ -2,7 +2,7 @@
 use mathlib.Core.Path.{_≡_, refl, sym, ap, _∙_, subst}
 use mathlib.Core.Bool.{Bool, true, false, not, _||_}
 use mathlib.Core.List.{List}
-use Prim.Native.Nat.{ℕ, _+_, _<_, _≤_}
+use Prim.Native.Nat.{ℕ, _<_, _≤_}
 use native.Mathlib.Decide.{decLt}
 use native.Mathlib.Nat.{zero-add}
 use native.Mathlib.Omega.{arith}
@@ -14,9 +14,9 @@ use Rattle.std.specs.Results.{Cases}
 use Rattle.std.specs.declared.result.Result.{Result}
 use Rattle.std.specs.declared.result.Result.the-variants.{Ok, Err}
 use Rattle.std.proofs.shelf.Lists.{getD-past}
-use Rattle.arithmetic.specs.Laws.{Operations, elements}
+use Rattle.arithmetic.specs.Laws.{Operations}
 use Rattle.refusal.specs.declared.kinds.Refusal.{Refusal}
-use Rattle.code.specs.Words.{distance, Word, Codeword}
+use Rattle.code.specs.Words.{distance, Word}
 use Rattle.code.specs.Faults.{Misshapen, code-refusal}
 use Rattle.code.specs.Outcomes.{Repaired, Astray, Irreparable}
 use Rattle.code.specs.declared.fault.CodeFault.{CodeFault}

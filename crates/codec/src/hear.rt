@@ -31,11 +31,7 @@ fn hear_group<L: LineCode>(line_code: &L, mask: u16, six: &[i8]) -> (u16, bool)
 }
 
 /// Reads a line group by group, and uses up a period's masks.
-pub(crate) fn read_line<S: Stream, L: LineCode>(
-    stream: &mut S,
-    line_code: &L,
-    line: &[i8],
-) -> Heard
+pub(crate) fn read_line<S: Stream, L: LineCode>(stream: &mut S, line_code: &L, line: &[i8]) -> Heard
     requires full { ⌜ length (now line) ≡ 2700 ⌝ }
     ensures heard { λ r. ⌜ Hears (L·LineCode .pair (now («line_code» .entry))) (S·Stream .mask (now (stream .entry))) (now (line .entry)) r ⌝ }
     ensures masks_used { λ _. ⌜ ((k : ℕ) → S·Stream .mask (now (stream .exit)) k ≡ S·Stream .mask (now (stream .entry)) (450 + k)) ⌝ }

@@ -5,9 +5,13 @@ mod ends;
 mod exchanges;
 mod faults;
 mod frame;
+#[cfg(test)]
+mod frame_tests;
 mod hear;
 mod hearing;
 mod line;
+#[cfg(test)]
+mod line_tests;
 mod lock;
 mod locking;
 mod mend;

@@ -15,6 +15,9 @@ use code::CodeFault;
 use lines::LineCode;
 use lines::Stream;
 
+/// As many groups of a line may differ from a codeword's line frame.
+const REACH: usize = 22;
+
 /// Whether a group is unread or its symbol is not the word's.
 fn is_misheard(heard: &Heard, word: &[u16; 450], k: usize) -> bool
     requires { ⌜ k < 450 ⌝ }
@@ -33,7 +36,7 @@ fn list_places(heard: &Heard, word: [u16; 450]) -> Result<Mended, CodeFault>
     let mut count = 0;
     for k in 0..450usize {
         if is_misheard(heard, &word, k) {
-            if count == 22 {
+            if count == REACH {
                 return Err(CodeFault::BeyondRepair);
             }
             places[count] = k as u16;

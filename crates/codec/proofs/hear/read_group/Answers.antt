@@ -31,8 +31,7 @@ returns g c =
     let six = c .args .six .now in
     let low = c .in-Continue-low .ensures tt .word-of-the-pair in
     let middle = c .in-Continue-middle .ensures tt .word-of-the-pair in
-    let high = c .in-Continue-high .ensures tt .word-of-the-pair in
-    (
+    let high = c .in-Continue-high .ensures tt .word-of-the-pair in (
       omega (arith, low .0, middle .0, high .0),
       words-read (g .L·LineCode .pair (c .args .line-code .now)) six _ _ _ (c .pre .six) (low .0) (middle .0) (high .0)
           (low .1 ∙ passed-is six 0 (search needs) (search needs)) (middle .1 ∙ passed-is six 1 (search needs) (search needs)) (high .1 ∙ passed-is six 2 (search needs) (search needs)),

@@ -1,5 +1,5 @@
-use mathlib.Core.Path.{_≡_, sym, ap, _∙_, subst}
-use Prim.Native.Nat.{ℕ, _+_, _-_, _*_, _<_}
+use mathlib.Core.Path.{_≡_, _∙_, subst}
+use Prim.Native.Nat.{_+_, _-_, _*_}
 use native.Mathlib.Omega.{arith}
 use lib.ListN.{take, drop, length-set}
 use Rattle.codec.specs.Hearing.{Heard-group}
@@ -18,8 +18,7 @@ loop-k-again g c =
     let inv = c .loop-k .inv in
     let wide : 6 * k + 6 - 6 * k ≡ 6 = omega arith in
     let mask = mask-now start before k _ (inv .3) (c .next-mask .ensures .first-mask) in
-    let here = subst (λ m. Heard-group pair m (take 6 (drop (6 * k) line)) s b) mask (subst (λ n. Heard-group pair (c .next-mask .result) (take n (drop (6 * k) line)) s b) wide (c .hear-group-symbol .ensures)) in
-    (
+    let here = subst (λ m. Heard-group pair m (take 6 (drop (6 * k) line)) s b) mask (subst (λ n. Heard-group pair (c .next-mask .result) (take n (drop (6 * k) line)) s b) wide (c .hear-group-symbol .ensures)) in (
       length-set _ _ _ ∙ inv .0,
       length-set _ _ _ ∙ inv .1,
       heard-more pair start line (c .loop-k .symbols) (c .loop-k .unread) k s b (omega (arith, inv .0)) (omega (arith, inv .1)) (inv .2) here,

@@ -16,8 +16,7 @@ pub loop-k-again : need.loop-k-again
 loop-k-again g c =
     let start = g .S·Stream .mask (c .args .stream .now) in
     let before = g .S·Stream .mask (c .loop-k .stream) in
-    let within : c .loop-k .k < length (c .args .word .now) = omega (arith, c .pre .word .full) in
-    (
+    let within : c .loop-k .k < length (c .args .word .now) = omega (arith, c .pre .word .full) in (
       written-more (g .L·LineCode .pair (c .args .line-code .now)) start (c .loop-k .k) _ (c .next-mask .result) (c .loop-k .line) (c .write-group .last .six) (c .args .word .now) within (omega (arith, c .pre .full))
           (mask-now start before (c .loop-k .k) _ (c .loop-k .inv .1) (c .next-mask .ensures .first-mask)) (c .loop-k .inv .0) (c .write-group .ensures),
       used-more start before _ (c .loop-k .k) (c .loop-k .inv .1) (c .next-mask .ensures .others-follow),

@@ -1,23 +1,18 @@
-use mathlib.Core.Path.{_≡_, refl, sym, ap, _∙_, subst}
-use mathlib.Core.List.{List}
-use Prim.Native.Nat.{ℕ, _+_}
+use mathlib.Core.Path.{_≡_, refl, sym, subst}
 use native.Mathlib.Omega.{arith}
-use lib.ListN.{length}
-use Rattle.std.specs.shelf.Lists.{kept-by}
-use Rattle.codec.specs.Lines.{padded}
-use Rattle.codec.specs.Hearing.{upward, is-misheard, misheard}
+use Rattle.codec.specs.Hearing.{is-misheard, misheard}
 use Rattle.codec.proofs.Listed.{Listing, listing-none, listing-yes, listing-no, listing-past}
 use Rattle.codec.proofs.mend.list_places.Needs as need
-use Rattle.codec.proofs.mend.list_places.Needs.{then-is-misheard·else-count-eq22, else-is-misheard}
+use Rattle.codec.proofs.mend.list_places.Needs.{then-is-misheard·else-count-eq-REACH, else-is-misheard}
 
 pub loop-k-holds : need.loop-k-holds
 loop-k-holds c = listing-none (is-misheard (c .args .heard .now) (c .args .word))
 
-pub returns-then-count-eq22 : need.returns-then-count-eq22
+pub returns-then-count-eq-REACH : need.returns-then-count-eq-REACH
 unfolding misheard
-returns-then-count-eq22 c = (
+returns-then-count-eq-REACH c = (
   refl,
-  listing-past (is-misheard (c .args .heard .now) (c .args .word)) (c .loop-k .k) 450 (c .loop-k .places) (c .loop-k .count) (c .loop-k-test .taken) (sym (c .if-is-misheard .ensures tt)) (c .if-count-eq22 .taken) (c .loop-k .inv),
+  listing-past (is-misheard (c .args .heard .now) (c .args .word)) (c .loop-k .k) 450 (c .loop-k .places) (c .loop-k .count) (c .loop-k-test .taken) (sym (c .if-is-misheard .ensures tt)) (c .if-count-eq-REACH .taken) (c .loop-k .inv),
 )
 
 pub loop-k-again : need.loop-k-again
@@ -25,7 +20,7 @@ loop-k-again c =
     let t = is-misheard (c .args .heard .now) (c .args .word) in
     let k = c .loop-k .k in
     elim (c .if-is-misheard .came) [
-      | then-is-misheard·else-count-eq22 w ↦ rw (w .places-is, w .count-is) (listing-yes t k (c .loop-k .places) (c .loop-k .count) (sym (w .if-is-misheard .ensures tt)) (w .if-count-eq22 .left) (c .loop-k .inv))
+      | then-is-misheard·else-count-eq-REACH w ↦ rw (w .places-is, w .count-is) (listing-yes t k (c .loop-k .places) (c .loop-k .count) (sym (w .if-is-misheard .ensures tt)) (w .if-count-eq-REACH .left) (c .loop-k .inv))
       | else-is-misheard w ↦ rw (w .places-is, w .count-is) (listing-no t k (c .loop-k .places) (c .loop-k .count) (sym (w .if-is-misheard .ensures tt)) (c .loop-k .inv))
     ]
 

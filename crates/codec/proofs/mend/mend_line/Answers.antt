@@ -1,4 +1,3 @@
-use mathlib.Core.Path.{_≡_, sym, ap, _∙_}
 use Rattle.std.proofs.shelf.Results.{err-from-errBy}
 use Rattle.codec.specs.Ends.{made-over}
 use Rattle.codec.proofs.Nearness.{heard-word, none-near-astray, listed-or-none, beyond-repair}
