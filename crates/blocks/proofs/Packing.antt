@@ -89,8 +89,9 @@ bits-take (suc n) (b ∷ bs) h = bits-more b (take n bs) (h 0) (bits-take n bs (
 
 pub bits-reverse : (bs : List ℕ) → Bits bs → Bits (reverse bs)
 bits-reverse bs h k = elim (cases-lt k (length bs)) [
-      inl l ↦ rw (getD-reverse bs k 0 l) (h (length bs - 1 - k))
-    | inr l ↦ rw (getD-past (reverse bs) k 0 (omega (arith, length-reverse bs))) (omega arith) ]
+  | inl l ↦ rw (getD-reverse bs k 0 l) (h (length bs - 1 - k))
+  | inr l ↦ rw (getD-past (reverse bs) k 0 (omega (arith, length-reverse bs))) (omega arith)
+]
 
 pub bits-number : (bs : List ℕ) → Bits bs → bits (length bs) (number bs) ≡ bs
 unfolding bits number

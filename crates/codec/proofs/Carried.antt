@@ -2,7 +2,7 @@
 use mathlib.Core.Path.{_≡_, refl, sym, ap, _∙_, subst}
 use mathlib.Core.List.{List, [], _∷_, _++_}
 use mathlib.Core.Logic.{_⊎_, inl, inr}
-use Prim.Native.Nat.{ℕ, zero, suc, _+_, _-_, _*_, _/_, _%_, _^_, _<_}
+use Prim.Native.Nat.{ℕ, zero, suc, _+_, _*_, _/_, _%_, _^_, _<_}
 use native.Mathlib.Nat.{div-one, pow-succ'}
 use native.Mathlib.Omega.{arith}
 use lib.ListN.{length, getD, take, drop, replicate}
@@ -25,7 +25,8 @@ use Rattle.blocks.proofs.Packing.{Bits, bits-drop, bits-unpacked, length-packed
 use Rattle.codec.specs.Frames.{block-bits, block-from, ten-at, blocks-bits, message-of, block-at, symbol-of}
 use Rattle.codec.specs.Reports.{Contains, First-fault, Frame-told}
 use Rattle.codec.specs.declared.faults.FrameFault.{FrameFault}
-use Rattle.codec.proofs.FrameSymbols.{Octets, eleven-octets}
+use Rattle.blocks.proofs.Invalid.{Octets}
+use Rattle.codec.proofs.FrameSymbols.{eleven-octets}
 use Rattle.codec.proofs.FrameBits.{eleven-of, header-of, octets-of, back-from-symbols, block-at-is, symbols-at, ten-later, message-is}
 use Rattle.codec.proofs.FrameWriting.{ten-long, ten-characters}
 use Rattle.codec.proofs.FrameReading.{in-front, refused}
@@ -94,10 +95,11 @@ no-fault characters word symbol (Some found) c (l, i, b) =
     absurd (never-both (block-at word (found .block)) (ten-at characters (found .block)) (block-refusal (found .fault)) (subst Octets (sym (e .makes)) (octets-of (ten-at characters (found .block)))) e i)
 
 pub told-clean : (characters handed word : List ℕ) (symbol invalid : ℕ) (fault : Option FrameFault) → Carried characters symbol word → Frame-told word handed invalid fault → (handed ≡ characters) × (invalid ≡ 0) × (fault ≡ None)
-told-clean characters handed word symbol invalid fault c t =
-    ( tens handed characters (t .full) (c .full) (λ k l. sym (t .blocks k l .otherwise (valid k l) .1 (ten-at characters k) (c .encodes k l)))
-    , no-block 45 invalid (t .no-further) valid
-    , no-fault characters word symbol fault c (t .first) )
+told-clean characters handed word symbol invalid fault c t = (
+  tens handed characters (t .full) (c .full) (λ k l. sym (t .blocks k l .otherwise (valid k l) .1 (ten-at characters k) (c .encodes k l))),
+  no-block 45 invalid (t .no-further) valid,
+  no-fault characters word symbol fault c (t .first),
+)
   where
     valid : (k : ℕ) → k < 45 → Contains invalid k → ⊥
     valid k l d = t .blocks k l .invalid-when-none .0 d (ten-at characters k) (c .encodes k l)

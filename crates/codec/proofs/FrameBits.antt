@@ -2,11 +2,11 @@
 use mathlib.Core.Path.{_≡_, refl, sym, ap, _∙_}
 use mathlib.Core.Bool.{Bool, true, false, cond}
 use mathlib.Core.List.{List, [], _∷_, _++_, append-nil, append-assoc}
-use Prim.Native.Nat.{ℕ, zero, suc, _+_, _-_, _*_, _/_, _%_, _^_, _<_, _≤_}
+use Prim.Native.Nat.{ℕ, zero, suc, _+_, _-_, _*_, _<_}
 use native.Mathlib.Nat.{mod-eq-of-lt}
 use native.Mathlib.Omega.{arith}
 use lib.ListN.{length, getD, take, drop}
-use Rattle.std.proofs.shelf.Lists.{length-append, length-drop, drop-drop, take-at, drop-at, take-all, take-take, drop-take}
+use Rattle.std.proofs.shelf.Lists.{length-append, length-drop, drop-drop, take-at, take-all}
 use Rattle.std.specs.declared.option.Option.{Option}
 use Rattle.std.specs.declared.option.Option.the-variants.{Some, None}
 use Rattle.blocks.specs.Bits.{bits, number, packed, unpacked}
@@ -14,7 +14,7 @@ use Rattle.blocks.specs.Blocks.{pointer, pointer-bits, own-bits, fields, header
 use Rattle.blocks.specs.Characters.{is-control}
 use Rattle.blocks.proofs.Packing.{Bits, bits-nil, bits-more, bits-of, bits-append, bits-reverse, bits-unpacked, length-bits, length-packed, length-unpacked, packed-append, packed-below, packed-unpacked, unpacked-packed, drop-unpacked, take-unpacked, number-bits, drop-past}
 use Rattle.codec.specs.Frames.{block-bits, block-from, ten-at, blocks-bits, frame-bits, message-of, block-at}
-use Rattle.codec.proofs.FrameSymbols.{Octets}
+use Rattle.blocks.proofs.Invalid.{Octets}
 
 -- the block that characters make
 

@@ -1,14 +1,14 @@
 -- The blocks of a word, read one after another.
 use mathlib.Core.Path.{_≡_, refl, sym, ap, _∙_, subst}
 use mathlib.Core.Bool.{true, false}
-use mathlib.Core.List.{List, [], _∷_, _++_}
-use mathlib.Core.Logic.{_⊎_, inl, inr}
-use Prim.Native.Nat.{ℕ, zero, suc, _+_, _-_, _*_, _/_, _%_, _^_, _<_, _≤_}
-use native.Mathlib.Nat.{div-eq-of-lt, add-mul-div-left, pow-succ', mul-assoc, mul-left-comm, add-div-right}
+use mathlib.Core.List.{List, _++_}
+use mathlib.Core.Logic.{inl, inr}
+use Prim.Native.Nat.{ℕ, suc, _+_, _-_, _*_, _/_, _%_, _^_, _<_, _≤_}
+use native.Mathlib.Nat.{div-eq-of-lt, add-mul-div-left, pow-succ', add-div-right}
 use native.Mathlib.Omega.{arith}
 use borrow.Author.Count.{below-more}
 use borrow.Rule.Slice.PartMut.{putMid}
-use lib.ListN.{length, getD, take, drop, replicate, length-take}
+use lib.ListN.{length, take, drop, replicate, length-take}
 use Rattle.std.proofs.shelf.Bits.{pow-pos, pow-add, one-shl}
 use Rattle.std.proofs.shelf.Lists.{length-append, length-take-le, length-drop, getD-take, getD-drop, getD-past, take-take, drop-take}
 use Rattle.std.proofs.shelf.Parts.{take-putMid-below, between-putMid}
@@ -17,8 +17,8 @@ use Rattle.std.specs.Options.{isSome}
 use Rattle.std.specs.declared.option.Option.{Option}
 use Rattle.std.specs.declared.option.Option.the-variants.{None, Some}
 use Rattle.refusal.specs.declared.kinds.Refusal.{Refusal}
-use Rattle.blocks.specs.Bits.{packed, unpacked}
-use Rattle.blocks.specs.Blocks.{Encodes, Encodes-only, Encodes-none, Invalid-field, Read-refused}
+use Rattle.blocks.specs.Bits.{unpacked}
+use Rattle.blocks.specs.Blocks.{Encodes-only, Encodes-none, Invalid-field, Read-refused}
 use Rattle.blocks.specs.Faults.{block-refusal}
 use Rattle.blocks.specs.declared.faults.BlockFault.{BlockFault}
 use Rattle.codec.specs.Frames.{block-from, block-at, ten-at}
@@ -44,8 +44,9 @@ ten-errors k bs block was ten fault found b l r t f =
 
 pub part-small : (word : List ℕ) (m n : ℕ) → Small word → Small (take n (drop m word))
 part-small word m n s i = elim (cases-lt i n) [
-      inl h ↦ rw (getD-take n (drop m word) i 0 h, getD-drop m word i 0) (s (m + i))
-    | inr h ↦ rw (getD-past (take n (drop m word)) i 0 (omega (arith, length-take n (drop m word)))) (omega arith) ]
+  | inl h ↦ rw (getD-take n (drop m word) i 0 h, getD-drop m word i 0) (s (m + i))
+  | inr h ↦ rw (getD-past (take n (drop m word)) i 0 (omega (arith, length-take n (drop m word)))) (omega arith)
+]
 
 -- a part of a list is in its front, and ten characters after a write to ten characters
 
@@ -115,8 +116,8 @@ told-more : (word characters ten : List ℕ) (k n invalid more : ℕ) (fault lat
 told-more word characters ten k n invalid more fault later h m l t s b f g = record {
   full = length-written characters ten k n h m (t .full) l;
   blocks = below-more (λ j. Block-told more j (block-at word j) (ten-at (putMid (10 * k) n characters ten) j)) k
-    (λ j i. subst (Block-told more j (block-at word j)) (sym (ten-before characters ten k n j (omega (arith, t .full)) i)) (same-told invalid more j (block-at word j) (ten-at characters j) (s j i) (t .blocks j i)))
-    (subst (Block-told more k (block-at word k)) (sym (ten-written characters ten k n (omega (arith, t .full)) l)) b);
+      (λ j i. subst (Block-told more j (block-at word j)) (sym (ten-before characters ten k n j (omega (arith, t .full)) i)) (same-told invalid more j (block-at word j) (ten-at characters j) (s j i) (t .blocks j i)))
+      (subst (Block-told more k (block-at word k)) (sym (ten-written characters ten k n (omega (arith, t .full)) l)) b);
   no-further = f;
   first = g;
 }
@@ -140,10 +141,11 @@ earlier None found = Some found
 earlier (Some first) found = Some first
 
 first-found : (word ten : List ℕ) (k : ℕ) (fault : Option FrameFault) (found : FrameFault) → Ten-errors k (block-at word k) ten found → First-of word k fault → First-of word (k + 1) (earlier fault found)
-first-found word ten k None found e t =
-    ( omega (arith, e .number)
-    , subst (λ j. Invalid-field (block-at word j) (block-refusal (found .fault))) (sym (e .number)) (e .field)
-    , λ j l. t j (omega (arith, e .number)) )
+first-found word ten k None found e t = (
+  omega (arith, e .number),
+  subst (λ j. Invalid-field (block-at word j) (block-refusal (found .fault))) (sym (e .number)) (e .field),
+  λ j l. t j (omega (arith, e .number)),
+)
 first-found word ten k (Some first) found e (l, i, b) = (omega arith, i, b)
 
 -- an invalid block

@@ -2,7 +2,7 @@
 use mathlib.Core.Path.{_≡_, refl, sym, ap, _∙_}
 use mathlib.Core.List.{List, [], _∷_, _++_}
 use mathlib.Core.Logic.{inl, inr}
-use Prim.Native.Nat.{ℕ, zero, suc, _+_, _-_, _*_, _/_, _%_, _^_, _<_, _≤_}
+use Prim.Native.Nat.{ℕ, suc, _+_, _-_, _*_, _/_, _%_, _^_, _<_, _≤_}
 use native.Mathlib.Nat.{mod-eq-of-lt, mul-comm, mod-one, mul-zero}
 use native.Mathlib.Omega.{arith}
 use lib.ListN.{length, getD, take, drop, set}
@@ -12,10 +12,8 @@ use Rattle.std.proofs.shelf.Lists.{length-drop, getD-drop, drop-drop, take-more
 use Rattle.std.proofs.shelf.Tests.{cases-lt}
 use Rattle.blocks.specs.Bits.{bits, number, packed, unpacked}
 use Rattle.blocks.proofs.Packing.{length-packed, getD-packed, within-one, across-two}
+use Rattle.blocks.proofs.Invalid.{Octets}
 use Rattle.codec.specs.Frames.{block-bits, block-from}
-
-abbrev pub Octets : List ℕ → Type 0
-Octets block = (k : ℕ) → getD block k 0 < 256
 
 -- what a mask and a shift to the left make of a number
 pub moved-up : (y j k : ℕ) → j < 16 → j + k ≤ 16 → (bitAnd y ((1 * 2 ^ j) % 65536 - 1) * 2 ^ k) % 65536 ≡ 2 ^ k * (y % 2 ^ j)
@@ -109,8 +107,9 @@ high-none symbols i high p e =
 
 pub later-octet : (symbols : List ℕ) (i high : ℕ) → length symbols ≡ 9 → Small symbols → 0 < i → i < 10 → High symbols i high → getD symbols (i - 1) 0 / 2 ^ (10 - i) + high ≡ getD (block-from (unpacked 9 symbols)) (1 + i) 0
 later-octet symbols i high h s p q e = elim (cases-lt i 9) [
-      inl l ↦ ap (λ x. getD symbols (i - 1) 0 / 2 ^ (10 - i) + x) e ∙ sym (middle-octet symbols i h s p l)
-    | inr l ↦ last (omega arith) ]
+  | inl l ↦ ap (λ x. getD symbols (i - 1) 0 / 2 ^ (10 - i) + x) e ∙ sym (middle-octet symbols i h s p l)
+  | inr l ↦ last (omega arith)
+]
   where
     last : i ≡ 9 → getD symbols (i - 1) 0 / 2 ^ (10 - i) + high ≡ getD (block-from (unpacked 9 symbols)) (1 + i) 0
     last n =

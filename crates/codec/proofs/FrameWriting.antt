@@ -4,7 +4,7 @@ use mathlib.Core.List.{List, [], _∷_, _++_, append-assoc}
 use Prim.Native.Nat.{ℕ, zero, suc, _+_, _-_, _*_, _<_, _≤_}
 use native.Mathlib.Omega.{arith}
 use borrow.Rule.Slice.PartMut.{putMid}
-use lib.ListN.{length, getD, take, drop, set, replicate}
+use lib.ListN.{length, getD, take, drop, set, replicate, length-set}
 use Rattle.std.proofs.shelf.Lists.{length-append, length-replicate, length-take-le, length-drop, getD-take, getD-drop, set-append-right, take-at, drop-at, drop-replicate}
 use Rattle.std.specs.Results.{Cases}
 use Rattle.std.specs.declared.result.Result.{Result}
@@ -18,6 +18,7 @@ use Rattle.blocks.specs.declared.faults.BlockFault.{BlockFault}
 use Rattle.blocks.proofs.Packing.{length-packed, packed-below, take-past}
 use Rattle.code.specs.Words.{Word}
 use Rattle.codec.specs.Frames.{block-bits, ten-at, blocks-bits, message-of}
+use Rattle.codec.proofs.FrameSymbols.{Small}
 use Rattle.codec.proofs.FrameBits.{symbols-more, bits-blocks-bits, message-is}
 
 -- ten characters are written
@@ -85,9 +86,6 @@ written-message cs symbol word h e =
 
 -- every symbol of it is an element
 
-abbrev Small : List ℕ → Type 0
-Small xs = (i : ℕ) → getD xs i 0 < 512
-
 small-append : (xs ys : List ℕ) → Small xs → Small ys → Small (xs ++ ys)
 small-append [] ys h t i = t i
 small-append (x ∷ xs) ys h t zero = h 0
@@ -101,6 +99,17 @@ small-zeros (suc n) (suc i) = small-zeros n i
 small-more : (x : ℕ) (xs : List ℕ) → x < 512 → Small xs → Small (x ∷ xs)
 small-more x xs h t zero = h
 small-more x xs h t (suc i) = t i
+
+small-set : (xs : List ℕ) (n v : ℕ) → Small xs → v < 512 → Small (set xs n v)
+small-set [] n v h l = h
+small-set (x ∷ xs) zero v h l = small-more v xs l (λ k. h (suc k))
+small-set (x ∷ xs) (suc n) v h l = small-more x (set xs n v) (h 0) (small-set xs n v (λ k. h (suc k)) l)
+
+pub zeros-word : Word (replicate 450 0)
+zeros-word = record { full = refl; small = small-zeros 450 }
+
+pub set-word : (word : List ℕ) (n v : ℕ) → Word word → v < 512 → Word (set word n v)
+set-word word n v w l = record { full = length-set word n v ∙ w .full; small = small-set word n v (w .small) l }
 
 pub written-word : (cs : List ℕ) (symbol : ℕ) (word : List ℕ) → symbol < 512 → Written cs 45 word → Word (set word 405 symbol)
 written-word cs symbol word h e = record {

@@ -3,6 +3,7 @@ use mathlib.Core.Path.{_≡_, refl, sym, ap, _∙_, subst}
 use mathlib.Core.Bool.{Bool, true, false, not, _||_}
 use mathlib.Core.List.{List, [], _∷_, _++_}
 use Prim.Native.Nat.{ℕ, zero, suc, _+_, _*_, _/_, _%_, _<_, _≤_}
+use native.Mathlib.Nat.{add-zero}
 use native.Mathlib.Omega.{arith}
 use borrow.Author.Tests.{eqb-false, not-true}
 use lib.Bits.{bitXor}
@@ -143,3 +144,12 @@ codewords-agree {a} {b} agree word w =
 
 pub near-agrees : {a b : End} → Agree a b → {period : ℕ} {line : List ℤ} {word : List ℕ} → Near a period line word → Near b period line word
 near-agrees {a} {b} agree {period} {line} {word} near = record { codeword = codewords-agree agree word (near .codeword); within = subst (λ l. apart line l ≤ 22) (frames-agree agree period word) (near .within) }
+
+pub agree-other-way : {a b : End} → Agree a b → Agree b a
+agree-other-way agree =
+    let f = agree .arithmetics in
+    record {
+      arithmetics = record { sums = λ a b. sym (f .sums a b); products = λ a b. sym (f .products a b); inverses = λ a. sym (f .inverses a); alphas = sym (f .alphas) };
+      streams = λ k. sym (agree .streams k);
+      codes = λ w h. sym (agree .codes w h);
+    }

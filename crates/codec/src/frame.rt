@@ -2,15 +2,12 @@
 ghost use mathlib.Core.Path.{_≡_};
 ghost use Prim.Native.Nat.{ℕ, _<_, _+_};
 ghost use lib.ListN.{length, getD, take};
-ghost use Rattle.std.specs.Results.{Cases};
 ghost use Rattle.blocks.specs.Bits.{packed, unpacked};
-ghost use Rattle.blocks.specs.Blocks.{Encodes-only, Encodes-none, Invalid-field};
 ghost use Rattle.blocks.specs.Characters.{Characters};
-ghost use Rattle.blocks.specs.Faults.{block-refusal};
 ghost use Rattle.code.specs.Words.{Word, Codeword};
 ghost use Rattle.codec.specs.Frames.{block-bits, block-from, message-of};
 ghost use Rattle.codec.specs.Reports.{Frame-told};
-ghost use Rattle.codec.specs.Numbering.{numbered, Ten-told};
+ghost use Rattle.codec.specs.Numbering.{Ten-told};
 use crate::faults::FrameFault;
 use crate::numbering::Numbered;
 use crate::report::BlockReport;

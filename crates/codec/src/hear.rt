@@ -40,9 +40,9 @@ pub(crate) fn read_line<S: Stream, L: LineCode>(stream: &mut S, line_code: &L, l
     let mut unread = [false; 450];
     for k in 0..450usize {
         let mask = stream.next();
-        let (symbol, silent) = hear_group(line_code, mask, &line[6 * k..6 * k + 6]);
+        let (symbol, unreadable) = hear_group(line_code, mask, &line[6 * k..6 * k + 6]);
         symbols[k] = symbol;
-        unread[k] = silent;
+        unread[k] = unreadable;
     }
     Heard { symbols, unread }
 }

@@ -1,5 +1,4 @@
 use mathlib.Core.Path.{_∙_}
-use native.Mathlib.Omega.{arith}
 use Rattle.codec.proofs.Completing.{completed}
 use Rattle.codec.proofs.frame.codeword_of.Needs as need
 

@@ -1,9 +1,5 @@
-use mathlib.Core.Path.{_≡_, sym, ap, _∙_}
-use Prim.Native.Nat.{ℕ, _+_, _-_, _*_, _/_, _%_, _^_, _<_}
+use mathlib.Core.Path.{sym}
 use native.Mathlib.Omega.{arith}
-use lib.ListN.{getD}
-use Rattle.blocks.specs.Bits.{unpacked}
-use Rattle.codec.specs.Frames.{block-from}
 use Rattle.codec.proofs.FrameSymbols.{High, end-octet, high-next, high-none, later-octet, octet-small}
 use Rattle.codec.proofs.frame.octet_at.Needs as need
 use Rattle.codec.proofs.frame.octet_at.Needs.{then-i-lt9, else-i-lt9}

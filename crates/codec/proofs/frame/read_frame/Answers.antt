@@ -1,5 +1,5 @@
-use mathlib.Core.Path.{_≡_, ap, _∙_, subst, refl}
-use Prim.Native.Nat.{ℕ, _+_, _-_, _*_}
+use mathlib.Core.Path.{_≡_, ap, _∙_, subst}
+use Prim.Native.Nat.{_+_, _-_, _*_}
 use native.Mathlib.Omega.{arith}
 use lib.ListN.{length, take, drop}
 use Rattle.std.proofs.shelf.Lists.{length-take-le, length-drop}
@@ -24,11 +24,11 @@ pub loop-k-again : need.loop-k-again
 loop-k-again c =
     let k = c .loop-k .k in
     elim (c .match-read-ten .came) [
-      in-Err·then-is-none w ↦ reading.read-invalid (c .args .word .now) (c .loop-k .characters) (c .read-ten .last .ten) k (9 * k + 9 - 9 * k) (10 * k + 10 - 10 * k) (c .loop-k .invalid) (c .match-read-ten .invalid) (c .loop-k .fault) (c .match-read-ten .fault) (w .in-Err .found) (c .loop-k-test .taken) (omega arith) (omega arith) (c .loop-k .inv) (w .in-Err .ensures tt) (w .invalid-is)
-        (reading.first-fault (c .loop-k .fault) (c .match-read-ten .fault) (w .in-Err .found) (w .if-is-none .ensures tt) (w .fault-is))
-    | in-Err·else-is-none w ↦ reading.read-invalid (c .args .word .now) (c .loop-k .characters) (c .read-ten .last .ten) k (9 * k + 9 - 9 * k) (10 * k + 10 - 10 * k) (c .loop-k .invalid) (c .match-read-ten .invalid) (c .loop-k .fault) (c .match-read-ten .fault) (w .in-Err .found) (c .loop-k-test .taken) (omega arith) (omega arith) (c .loop-k .inv) (w .in-Err .ensures tt) (w .invalid-is)
-        (reading.later-fault (c .loop-k .fault) (c .match-read-ten .fault) (w .in-Err .found) (w .if-is-none .ensures tt) (w .fault-is))
-    | in-rest w ↦ reading.read-valid (c .args .word .now) (c .loop-k .characters) (c .read-ten .last .ten) k (9 * k + 9 - 9 * k) (10 * k + 10 - 10 * k) (c .loop-k .invalid) (c .match-read-ten .invalid) (c .loop-k .fault) (c .match-read-ten .fault) (c .loop-k-test .taken) (omega arith) (omega arith) (c .loop-k .inv) (w .in-rest .ensures tt) (w .invalid-is) (w .fault-is)
+      | in-Err·then-is-none w ↦ reading.read-invalid (c .args .word .now) (c .loop-k .characters) (c .read-ten .last .ten) k (9 * k + 9 - 9 * k) (10 * k + 10 - 10 * k) (c .loop-k .invalid) (c .match-read-ten .invalid) (c .loop-k .fault) (c .match-read-ten .fault) (w .in-Err .found) (c .loop-k-test .taken) (omega arith) (omega arith) (c .loop-k .inv) (w .in-Err .ensures tt) (w .invalid-is)
+          (reading.first-fault (c .loop-k .fault) (c .match-read-ten .fault) (w .in-Err .found) (w .if-is-none .ensures tt) (w .fault-is))
+      | in-Err·else-is-none w ↦ reading.read-invalid (c .args .word .now) (c .loop-k .characters) (c .read-ten .last .ten) k (9 * k + 9 - 9 * k) (10 * k + 10 - 10 * k) (c .loop-k .invalid) (c .match-read-ten .invalid) (c .loop-k .fault) (c .match-read-ten .fault) (w .in-Err .found) (c .loop-k-test .taken) (omega arith) (omega arith) (c .loop-k .inv) (w .in-Err .ensures tt) (w .invalid-is)
+          (reading.later-fault (c .loop-k .fault) (c .match-read-ten .fault) (w .in-Err .found) (w .if-is-none .ensures tt) (w .fault-is))
+      | in-rest w ↦ reading.read-valid (c .args .word .now) (c .loop-k .characters) (c .read-ten .last .ten) k (9 * k + 9 - 9 * k) (10 * k + 10 - 10 * k) (c .loop-k .invalid) (c .match-read-ten .invalid) (c .loop-k .fault) (c .match-read-ten .fault) (c .loop-k-test .taken) (omega arith) (omega arith) (c .loop-k .inv) (w .in-rest .ensures tt) (w .invalid-is) (w .fault-is)
     ]
 
 pub returns : need.returns

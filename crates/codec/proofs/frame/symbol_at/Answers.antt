@@ -1,11 +1,11 @@
-use mathlib.Core.Path.{_≡_, sym, ap, _∙_}
-use Prim.Native.Nat.{ℕ, _+_, _-_, _*_, _/_, _%_, _^_, _<_}
+use mathlib.Core.Path.{sym, ap, _∙_}
+use Prim.Native.Nat.{_+_, _-_, _/_, _^_}
 use native.Mathlib.Omega.{arith}
-use lib.Bits.{bitAnd}
 use lib.ListN.{getD}
 use Rattle.blocks.specs.Bits.{packed}
 use Rattle.codec.specs.Frames.{block-bits}
-use Rattle.codec.proofs.FrameSymbols.{Octets, first-symbol, later-symbol, symbol-small, moved-up}
+use Rattle.blocks.proofs.Invalid.{Octets}
+use Rattle.codec.proofs.FrameSymbols.{first-symbol, later-symbol, symbol-small, moved-up}
 use Rattle.codec.proofs.frame.symbol_at.Needs as need
 
 pub returns-then-j-eq0 : need.returns-then-j-eq0
