@@ -45,11 +45,11 @@ abbrev pub header : Option ℕ → ℕ
 header None = 0
 header (Some p) = 1
 
--- the block that ten characters make: a header octet and ten payload octets
+-- the block that ten characters make: its header octet, then the payload as ten octets
 unfoldable pub block-of : List ℕ → List ℕ
 block-of cs = header (pointer 0 cs) ∷ packed 8 10 (fields true 0 cs)
 
--- a block encodes ten characters when they make it
+-- ten characters are encoded by the block that they make
 pub record Encodes (block cs : List ℕ) : Type 0 where
   pub ten : length cs ≡ 10
   pub characters : Characters cs
@@ -70,7 +70,7 @@ position bs = number (take 4 bs)
 abbrev pub more : List ℕ → ℕ
 more bs = getD bs 4 0
 
--- a position from n to 9, and not 9 with weight 16 set
+-- the position is no earlier than n and no later than 9, and where it is 9 no further control is announced
 pub record Valid-pointer (n : ℕ) (bs : List ℕ) : Type 0 where
   pub ahead : n ≤ position bs
   pub inside : position bs ≤ 9
@@ -96,7 +96,7 @@ pub data Invalid-from : ℕ → List ℕ → Refusal → Type 0 where
   code-invalid : {n : ℕ} {bs : List ℕ} → Valid-pointer n bs → (Control (coded n bs) → ⊥) → Invalid-from n bs (reserved-code (position bs))
   later : {n : ℕ} {bs : List ℕ} {why : Refusal} → Valid-pointer n bs → Control (coded n bs) → more bs ≡ 1 → Invalid-from (position bs + 1) (drop 3 (from-code n bs)) why → Invalid-from n bs why
 
--- a header octet above 1 counts as an invalid pointer at octet 0
+-- a header octet that is neither 0 nor 1 is told as an invalid pointer at octet 0
 pub data Invalid-field (block : List ℕ) : Refusal → Type 0 where
   header-invalid : 1 < getD block 0 0 → Invalid-field block (invalid-pointer 0)
   field-invalid : {why : Refusal} → getD block 0 0 ≡ 1 → Invalid-from 0 (unpacked 8 (drop 1 block)) why → Invalid-field block why

@@ -15,7 +15,7 @@ unfoldable pub pairs : (ℕ → ℤ × ℤ) → List ℕ → List ℤ
 pairs pair [] = []
 pairs pair (w ∷ ws) = pair w .0 ∷ pair w .1 ∷ pairs pair ws
 
--- the group of a scrambled symbol: its nine bits cut into three words, first bit weight 1, as pairs
+-- the group of a scrambled symbol: its nine bits in threes, each three a word with its first bit at weight 1, as pairs
 unfoldable pub line-group : (ℕ → ℤ × ℤ) → ℕ → List ℤ
 line-group pair c = pairs pair (packed 3 3 (bits 9 c))
 

@@ -7,7 +7,7 @@ use Rattle.codec.specs.declared.lock.Lock.the-variants.{Locked, Lost}
 use Rattle.codec.specs.declared.lock.FrameOutcome.{FrameOutcome}
 use Rattle.codec.specs.declared.lock.FrameOutcome.the-variants.{Accepted, BeyondRepair}
 
--- an accepted frame ends the run of bad ones; the fortieth bad frame in a run loses lock for good
+-- acceptance sets the run of bad frames back to none; with forty in a row the lock is gone, and stays so
 abbrev pub next-lock : Lock → FrameOutcome → Lock
 next-lock (Locked bad) Accepted = Locked 0
 next-lock (Locked bad) BeyondRepair = cond (ltb (bad + 1) 40) (Locked (bad + 1)) Lost

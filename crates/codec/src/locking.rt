@@ -4,11 +4,11 @@ ghost use Rattle.codec.specs.Locks.{next-lock};
 use crate::lock::FrameOutcome;
 use crate::lock::Lock;
 
-/// The fortieth bad frame in a run loses lock.
+/// So many bad frames in a row cost the lock.
 const RUN: u8 = 40;
 
 impl Lock {
-    /// Takes a frame's outcome in: an accepted frame ends the run of bad ones, and a lost lock stays lost.
+    /// Takes a frame's outcome in: acceptance sets the run back, and a lost lock stays lost.
     pub(crate) fn note(&mut self, outcome: FrameOutcome)
         ensures { λ _. ⌜ now (self .exit) ≡ next-lock (now (self .entry)) outcome ⌝ }
     {

@@ -25,7 +25,7 @@ abbrev pub Reads : (ℕ → ℤ × ℤ) → ℤ × ℤ → Option ℕ → Type 0
 Reads writes line None = (w : ℕ) → w < 8 → writes w ≡ line → ⊥
 Reads writes line (Some w) = (w < 8) × (writes w ≡ line)
 
--- two line codes agree when they write equal pairs
+-- agreement of two line codes: each word has the same pair in both
 abbrev pub Line-codes-agree : (ℕ → ℤ × ℤ) → (ℕ → ℤ × ℤ) → Type 0
 Line-codes-agree ours theirs = (w : ℕ) → w < 8 → ours w ≡ theirs w
 

@@ -39,7 +39,7 @@ scrambler-mask role s k = number (next-bits role (state-after role s (9 * k)) 9)
 abbrev pub silent-mask : ℕ → ℕ
 silent-mask k = 0
 
--- two streams agree when their sequences are equal
+-- agreement of two streams: mask for mask the same
 abbrev pub Streams-agree : (ℕ → ℕ) → (ℕ → ℕ) → Type 0
 Streams-agree ours theirs = (k : ℕ) → ours k ≡ theirs k
 

@@ -1,4 +1,4 @@
-//! Layers over any line code, each again a line code.
+//! Layers: line codes made of the line code below them.
 ghost use Rattle.lines.specs.LineCodes.{turned, exchanged};
 use crate::line_code::LineCode;
 

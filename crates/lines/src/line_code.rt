@@ -1,4 +1,4 @@
-//! Line codes: a pair of line symbols for each three-bit word.
+//! Line codes: how three bits become two line symbols.
 ghost use mathlib.Core.Path.{_≡_};
 ghost use Prim.Native.Nat.{ℕ, _%_, _<_};
 ghost use lib.IntN.{ℤ};

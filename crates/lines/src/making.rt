@@ -2,6 +2,6 @@
 
 #[derive(Clone, Copy, PartialEq, Eq, Debug)]
 pub enum MakingFault {
-    /// The seed is 0 or above 32,767.
+    /// No scrambler can start at the seed: it is 0, or it has more than fifteen bits.
     Seed,
 }

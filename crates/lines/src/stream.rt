@@ -10,7 +10,7 @@ pub trait Stream {
 
     law bounded: { (s : Self) (k : ℕ) → mask s k < 512 };
 
-    /// Answers the first mask and leaves the others.
+    /// Takes the first mask off the sequence and answers it.
     fn next(&mut self) -> u16
         ensures first_mask { λ r. ⌜ r ≡ mask (now (self .entry)) 0 ⌝ }
         ensures others_follow { λ _. ⌜ ((k : ℕ) → mask (now (self .exit)) k ≡ mask (now (self .entry)) (k + 1)) ⌝ };

@@ -44,7 +44,7 @@ fn zeros_received(rt: &LibcRuntime) -> Result<(), AnyError> {
     Ok(())
 }
 
-/// A send of zeros with symbol 0, a hit at place 0 with 2, and a receive, as bench records.
+/// Three bench records: zeros sent with symbol 0, place 0 of the line set to 1, the line received.
 fn bench_lines(rt: &LibcRuntime) -> Result<(), AnyError> {
     let mut records = [0u8; 917];
     records[0] = 0x86;
