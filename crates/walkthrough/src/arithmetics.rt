@@ -10,7 +10,7 @@ use arithmetic::worked_values;
 use std::io;
 
 /// A few products by both.
-pub fn products(rt: &LibcRuntime) -> io::Result<()> {
+pub(crate) fn products(rt: &LibcRuntime) -> io::Result<()> {
     println!(rt, "Products, by tables and by shifting:")?;
     let factors = [
         (2u16, 256u16),
@@ -34,7 +34,7 @@ pub fn products(rt: &LibcRuntime) -> io::Result<()> {
 }
 
 /// The worked values.
-pub fn examples(rt: &LibcRuntime) -> io::Result<()> {
+pub(crate) fn examples(rt: &LibcRuntime) -> io::Result<()> {
     let WorkedValues {
         ninth_power,
         fourteenth_power,

@@ -36,7 +36,7 @@ fn print_read(rt: &LibcRuntime, block: &[u8; 11]) -> io::Result<()> {
 }
 
 /// A packet's last nine octets and an error mark, which falls in octet 9: written, and read back.
-pub fn packet_tail(rt: &LibcRuntime) -> io::Result<()> {
+pub(crate) fn packet_tail(rt: &LibcRuntime) -> io::Result<()> {
     println!(
         rt,
         "A packet's tail with an error mark as its lone control, in octet 9:"
@@ -54,7 +54,7 @@ pub fn packet_tail(rt: &LibcRuntime) -> io::Result<()> {
 }
 
 /// One block of each kind that encodes no characters, with its refusal.
-pub fn invalid_blocks(rt: &LibcRuntime) -> io::Result<()> {
+pub(crate) fn invalid_blocks(rt: &LibcRuntime) -> io::Result<()> {
     println!(rt, "Blocks that encode no ten characters:")?;
     let invalid = [
         ("a header octet above 1", [2, 0, 0, 0, 0, 0, 0, 0, 0, 0, 0]),

@@ -68,7 +68,7 @@ fn print_outcome(rt: &LibcRuntime, answer: Result<Report, EndFault>) -> io::Resu
 }
 
 /// A frame sent, 22 of its groups damaged, received and repaired.
-pub fn damaged_frame(rt: &LibcRuntime) -> Result<(), AnyError> {
+pub(crate) fn damaged_frame(rt: &LibcRuntime) -> Result<(), AnyError> {
     println!(rt, "A frame of 450 characters on the line, with 22 groups damaged:")?;
     let stream = master()?;
     let mut sender = Sender::new(Tabled, stream, Ring);
@@ -94,7 +94,7 @@ pub fn damaged_frame(rt: &LibcRuntime) -> Result<(), AnyError> {
 }
 
 /// Bad frames until lock is lost.
-pub fn lost_lock(rt: &LibcRuntime) -> Result<(), AnyError> {
+pub(crate) fn lost_lock(rt: &LibcRuntime) -> Result<(), AnyError> {
     println!(rt, "Bad frames, lines of zeros:")?;
     let mut receiver = Receiver::new(Tabled, master()?, Ring);
     let line = [0i8; 2700];
@@ -120,7 +120,7 @@ fn print_turn(rt: &LibcRuntime, turn: &Turn) -> io::Result<()> {
 }
 
 /// A list of calls on two ends whose arithmetics are of different kinds.
-pub fn a_list_of_calls(rt: &LibcRuntime) -> Result<(), AnyError> {
+pub(crate) fn a_list_of_calls(rt: &LibcRuntime) -> Result<(), AnyError> {
     println!(rt, "A list of calls, the sender over shifting and the receiver over tables:")?;
     let heap = rt.alloc();
     let mut line = [0i8; 2700];

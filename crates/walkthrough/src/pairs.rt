@@ -20,7 +20,7 @@ fn print_pairs<L: LineCode>(rt: &LibcRuntime, name: &str, code: &L) -> io::Resul
 }
 
 /// The pairs of both line codes, and of the layers over them.
-pub fn line_codes(rt: &LibcRuntime) -> io::Result<()> {
+pub(crate) fn line_codes(rt: &LibcRuntime) -> io::Result<()> {
     println!(rt, "The pairs of the words 0 to 7:")?;
     print_pairs(rt, "ordered", &Ordered)?;
     print_pairs(rt, "ring", &Ring)?;

@@ -23,7 +23,7 @@ fn message() -> [u16; 450] {
 }
 
 /// Completes a word, damages 22 and 23 of its symbols, and repairs it.
-pub fn damaged_words(rt: &LibcRuntime) -> io::Result<()> {
+pub(crate) fn damaged_words(rt: &LibcRuntime) -> io::Result<()> {
     println!(rt, "A word of the code:")?;
     let code = Code::new(Tabled);
     let mut sent = message();
