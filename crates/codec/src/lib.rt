@@ -1,4 +1,4 @@
-//! The line codec: what the layers below publish, under one name.
+//! The line codec: frames, ends and exchanges, with the calls of the layers below.
 mod checks;
 mod end_refusals;
 mod ends;
