@@ -1,5 +1,5 @@
 -- What is added where a file ends. Assumes nothing.
-use mathlib.Core.Path.{_≡_, refl, sym, ap, _∙_}
+use mathlib.Core.Path.{_≡_, ap, _∙_}
 use mathlib.Core.List.{List, _++_, append-assoc}
 use Prim.Native.Nat.{ℕ, _<_}
 use lib.ListN.{length}
@@ -17,5 +17,5 @@ ended-misfit number rest before middle after first said misfits is one two =
     record {
       text = line-of first ++ line-of (cut number);
       added = two ∙ ap (λ p. middle ++ line-of p) is ∙ ap (λ l. l ++ line-of (cut number)) one ∙ append-assoc before (line-of first) (line-of (cut number));
-      ends = inside-misfit misfits
+      ends = inside-misfit misfits;
     }

@@ -1,11 +1,10 @@
 -- Records at the front of octets. Assumes nothing.
-use mathlib.Core.Path.{_≡_, refl, sym, ap, subst, _∙_}
-use mathlib.Core.List.{List, [], _∷_, _++_}
+use mathlib.Core.Path.{_≡_, sym, ap, _∙_}
+use mathlib.Core.List.{List, _++_}
 use Prim.Native.Nat.{ℕ, _+_, _-_, _/_, _%_, _<_, _≤_}
 use native.Mathlib.Omega.{arith}
 use lib.ListN.{length, take, drop, length-append, length-take, length-drop}
 use lib.Seq.{take-add}
-use Rattle.bench.specs.Records.{two-octets}
 use Rattle.bench.specs.Files.{head-octets, Is-record, No-record}
 use Rattle.bench.specs.declared.kinds.Head.{Head}
 
@@ -35,5 +34,5 @@ whole octets h front long =
     let n : 4 + h .length - 4 ≡ h .length = omega arith in
     record {
       written = take-add 4 (h .length) octets ∙ ap (λ l. l ++ take (h .length) (drop 4 octets)) front ∙ ap (λ k. head-octets h ++ take k (drop 4 octets)) (sym n);
-      full = simp (length-take, length-drop) (omega arith)
+      full = simp (length-take, length-drop) (omega arith);
     }

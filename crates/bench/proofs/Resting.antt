@@ -16,7 +16,7 @@ use Rattle.codec.specs.declared.lock.Lock.{Lock}
 use Rattle.codec.specs.declared.lock.Lock.the-variants.{Locked, Lost}
 use Rattle.codec.specs.declared.request.Outcome.{Outcome}
 use Rattle.refusal.specs.declared.kinds.Refusal.{Refusal}
-use Rattle.bench.specs.Benches.{Standing, Unchanged, Tells, Rests, both, neither}
+use Rattle.bench.specs.Benches.{Standing, Tells, Rests, both, neither}
 use Rattle.bench.specs.declared.printed.Answer.{Answer}
 
 -- a receiver rests only with lock, and refuses only without
@@ -39,7 +39,7 @@ zeros : (end : End) (line left : List ℤ) (outcome : Outcome) → length line �
     → Answers end 0 new-lock (sender-rest line) (sender-rest left) outcome → (left ≡ replicate 2700 (pos 0)) × (outcome ≡ Outcome.Done)
 zeros end line left outcome full h =
     let p : Performs end 0 (sender-rest line) (sender-rest left) outcome =
-        subst (λ found. elim found as (λ f. Type 0) [ [] ↦ Performs end 0 (sender-rest line) (sender-rest left) outcome | fault ∷ more ↦ (sender-rest left ≡ sender-rest line) × (outcome ≡ Outcome.Refused fault) ]) (no-fault line full) h in
+    subst (λ found. elim found as (λ f. Type 0) [ [] ↦ Performs end 0 (sender-rest line) (sender-rest left) outcome | fault ∷ more ↦ (sender-rest left ≡ sender-rest line) × (outcome ≡ Outcome.Refused fault) ]) (no-fault line full) h in
     let e = p .0 in
     let same : left ≡ replicate 2700 (pos 0) = cc in
     (same, p .1)

@@ -1,11 +1,13 @@
 -- What a record does to a bench, and what is told of it. Assumes nothing.
 use mathlib.Core.Path.{_≡_}
 use mathlib.Core.List.{List}
-use Prim.Native.Nat.{ℕ}
+use mathlib.Core.Logic.{_⊎_}
+use Prim.Native.Nat.{ℕ, _<_}
 use lib.IntN.{ℤ, pos}
 use lib.ListN.{length, set, replicate}
 use Rattle.std.specs.declared.result.Result.{Result}
 use Rattle.std.specs.declared.result.Result.the-variants.{Ok, Err}
+use Rattle.refusal.specs.declared.kinds.Refusal.{Refusal}
 use Rattle.arithmetic.specs.Laws.{Operations}
 use Rattle.codec.specs.Calls.{Answers, send, receive, periods-of, lock-after, sender-end, receiver-end}
 use Rattle.codec.specs.Ends.{End, Later}
@@ -124,3 +126,11 @@ pub data Carries (before : Standing) (number : ℕ) (head : Head) (payload : Lis
 abbrev pub answered : Result Answer BenchFault → Answer
 answered (Ok answer) = answer
 answered (Err fault) = Answer.Refused (bench-refusal fault)
+
+-- a refusal other than of a frame beyond repair: 1 to 6 of an end, or 11 and 12 of a record
+abbrev pub No-period : Refusal → Type 0
+No-period refusal = (refusal .number < 7) ⊎ (10 < refusal .number)
+
+-- a record that is so refused leaves the bench where it stood
+abbrev pub Refused-changes-nothing : Standing → Answer → Standing → Type 0
+Refused-changes-nothing before answer after = (refusal : Refusal) → answer ≡ Answer.Refused refusal → No-period refusal → Unchanged before after

@@ -1,6 +1,6 @@
 -- The records of a file, one after another, and where it ends. Assumes nothing.
 use mathlib.Core.Path.{_≡_}
-use mathlib.Core.List.{List, [], _∷_, _++_}
+use mathlib.Core.List.{List, [], _++_}
 use Prim.Native.Nat.{ℕ, _+_, _%_, _^_, _<_, _≤_}
 use lib.ListN.{length, take, drop}
 use Rattle.bench.specs.Records.{two-octets, Fits-no-kind}

@@ -1,6 +1,5 @@
 -- The bench that the console drives. Assumes nothing.
-use Prim.Native.Nat.{ℕ}
-use lib.IntN.{ℤ, pos}
+use lib.IntN.{pos}
 use lib.ListN.{replicate}
 use Rattle.arithmetic.specs.Polynomials.{polynomials}
 use Rattle.arithmetic.specs.declared.tabled.Tabled.{Tabled}

@@ -82,8 +82,7 @@ impl<A: Arithmetic, S: Stream, L: LineCode> Bench<A, S, L> {
         ensures number_stays { λ _. ⌜ now (self .exit) .number ≡ now (self .entry) .number ⌝ }
     {
         reported(
-            self
-                .receiver
+            self.receiver
                 .receive(&self.line, &mut self.characters, &mut self.places),
         )
     }

@@ -11,6 +11,8 @@ mod printing;
 mod refusals;
 mod standard;
 mod step;
+#[cfg(test)]
+mod tests;
 
 pub use bench::Bench;
 pub use bench::Step;

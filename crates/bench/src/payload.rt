@@ -11,11 +11,7 @@ use crate::kinds::Hit;
 
 /// Reads a send's payload: the characters into the buffer, as many as it holds, and the management symbol as the answer.
 /// A payload of another length is refused; `number` is the record's number.
-pub fn read_send(
-    payload: &[u8],
-    number: usize,
-    characters: &mut [u16],
-) -> Result<u16, BenchFault>
+pub fn read_send(payload: &[u8], number: usize, characters: &mut [u16]) -> Result<u16, BenchFault>
     ensures symbol_then_characters_or_refused { λ r. ⌜ Cases r
         (λ symbol. now (payload .entry) ≡ send-payload symbol (now (characters .exit)))
         (λ e. (length (now (payload .entry)) ≡ 2 + 2 * length (now (characters .entry)) → ⊥) × (e ≡ BenchFault.BadRecord number)) ⌝ }

@@ -12,7 +12,9 @@ pub enum Answer {
         places: usize,
         invalid: u64,
     },
-    Refused { refusal: Refusal },
+    Refused {
+        refusal: Refusal,
+    },
 }
 
 /// The kind of a record, and what became of it.

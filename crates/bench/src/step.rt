@@ -1,10 +1,7 @@
 //! One record at a time.
 ghost use mathlib.Core.Path.{_≡_};
-ghost use lib.IntN.{pos};
-ghost use lib.ListN.{replicate};
 ghost use Rattle.std.specs.Options.{Cases as BySome};
-ghost use Rattle.codec.specs.Calls.{sender-end, receiver-end};
-ghost use Rattle.bench.specs.Benches.{standing, stands-new};
+ghost use Rattle.bench.specs.Benches.{standing, stands-new, Refused-changes-nothing};
 ghost use Rattle.bench.specs.Files.{Steps, No-record};
 use crate::bench::Bench;
 use crate::bench::Step;
@@ -34,6 +31,7 @@ impl<A: Arithmetic, S: Stream, L: LineCode> Bench<A, S, L> {
     /// Carries out the record with which the octets begin; does nothing where they hold no whole record.
     pub fn step(&mut self, octets: &[u8]) -> Option<Step>
         ensures first_record_or_none { λ r. ⌜ BySome r (No-record (now (octets .entry))) (λ step. Steps (standing (A·Arithmetic .field) (S·Stream .mask) (L·LineCode .pair) (now (self .entry))) (now (self .entry) .number) (now (octets .entry)) step (standing (A·Arithmetic .field) (S·Stream .mask) (L·LineCode .pair) (now (self .exit))) (now (self .exit) .number)) ⌝ }
+        ensures refused_record_changes_nothing { λ r. ⌜ BySome r (Unit {0}) (λ step. Refused-changes-nothing (standing (A·Arithmetic .field) (S·Stream .mask) (L·LineCode .pair) (now (self .entry))) (step .printed .answer) (standing (A·Arithmetic .field) (S·Stream .mask) (L·LineCode .pair) (now (self .exit)))) ⌝ }
         ensures nothing_for_none { λ r. ⌜ BySome r (now (self .exit) ≡ now (self .entry)) (λ _. Unit {0}) ⌝ }
     {
         let head = read_head(octets)?;

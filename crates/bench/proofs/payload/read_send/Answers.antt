@@ -1,8 +1,4 @@
-use mathlib.Core.Path.{_≡_}
-use Prim.Native.Nat.{_+_, _*_}
-use lib.ListN.{length}
 use native.Mathlib.Omega.{arith}
-use borrow.Author.Needs.{needs}
 use Rattle.bench.proofs.Payloads.{next-number, all-numbers}
 use Rattle.bench.proofs.payload.read_send.Needs as need
 
@@ -12,6 +8,6 @@ loop-k-again c =
 
 pub returns : need.returns
 returns c = record {
-      symbol-then-characters-or-refused = all-numbers (c .args .payload .now) (c .loop-k .characters) (c .loop-k .k) (c .two-symbol .result) (omega arith) (omega arith) (c .loop-k .inv);
-      refusal-writes-nothing = tt
-    }
+  symbol-then-characters-or-refused = all-numbers (c .args .payload .now) (c .loop-k .characters) (c .loop-k .k) (c .two-symbol .result) (omega arith) (omega arith) (c .loop-k .inv);
+  refusal-writes-nothing = tt;
+}

@@ -1,7 +1,6 @@
-use mathlib.Core.Path.{_≡_, refl, sym, ap, subst, _∙_}
+use mathlib.Core.Path.{_≡_, ap, subst, _∙_}
 use mathlib.Core.Bool.{true, false}
-use Prim.Native.Nat.{ℕ}
-use lib.IntN.{ℤ, pos}
+use lib.IntN.{pos}
 use lib.ListN.{replicate}
 use Rattle.std.specs.declared.result.Result.{Result}
 use Rattle.std.specs.declared.result.Result.the-variants.{Ok, Err}
@@ -48,5 +47,5 @@ returns c =
     let m = is-master (c .unwrap-stream .result) (p .0) (p .1) in
     record {
       both-ends-alike = c .new-4 .ensures .stands-new ∙ all-standard _ _ _ (c .new-2 .ensures .stands-new ∙ m) (c .new-3 .ensures .stands-new ∙ m) (c .new-3 .ensures .has-lock);
-      counts-from-0 = c .new-4 .ensures .counts-from-0
+      counts-from-0 = c .new-4 .ensures .counts-from-0;
     }

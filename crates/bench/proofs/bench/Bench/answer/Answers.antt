@@ -1,4 +1,4 @@
-use mathlib.Core.Path.{_≡_, refl, subst}
+use mathlib.Core.Path.{refl, subst}
 use Rattle.std.proofs.shelf.Results.{err-from-errBy}
 use Rattle.bench.specs.Benches.{standing, Carries, bad-head, sends, hits, receives, rests}
 use Rattle.bench.specs.Records.{Fits-kind}
@@ -12,7 +12,7 @@ returns-in-Break-judge g c =
     let at = standing (g .A·Arithmetic .field) (g .S·Stream .mask) (g .L·LineCode .pair) (c .args .self .now) in
     record {
       carries = subst (λ answer. Carries at (c .args .self .now .number) (c .args .head) (c .args .payload .now) answer at) (bad-answer _ _ _ _ (p .1) (p .2) (told .1)) (bad-head (told .0) (unchanged at));
-      number-stays = refl
+      number-stays = refl;
     }
 
 pub returns-in-Send : need.returns-in-Send

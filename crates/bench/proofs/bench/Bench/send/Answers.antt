@@ -14,16 +14,16 @@ returns-in-Break-symbol g c =
 
 pub returns : need.returns
 returns g c = record {
-      sends = record {
-        symbol = c .in-Continue-symbol .symbol;
-        characters = c .read-send .last .characters;
-        carried = c .in-Continue-symbol .ensures tt .symbol-then-characters-or-refused;
-        outcome = done (c .send .result);
-        answers = c .send .ensures .answers-by-its-rule;
-        tells = c .plain .ensures;
-        sender = c .send .ensures .stands-later;
-        receiver = still (receiver-end (g .A·Arithmetic .field) (g .S·Stream .mask) (g .L·LineCode .pair) (c .args .self .now .receiver));
-        lock = refl
-      };
-      number-stays = refl
-    }
+  sends = record {
+    symbol = c .in-Continue-symbol .symbol;
+    characters = c .read-send .last .characters;
+    carried = c .in-Continue-symbol .ensures tt .symbol-then-characters-or-refused;
+    outcome = done (c .send .result);
+    answers = c .send .ensures .answers-by-its-rule;
+    tells = c .plain .ensures;
+    sender = c .send .ensures .stands-later;
+    receiver = still (receiver-end (g .A·Arithmetic .field) (g .S·Stream .mask) (g .L·LineCode .pair) (c .args .self .now .receiver));
+    lock = refl;
+  };
+  number-stays = refl;
+}
