@@ -13,7 +13,7 @@ import sys
 TOP = sys.argv[1] if len(sys.argv) > 1 else "."
 # a name: whatever stands between blanks, brackets, dots and punctuation
 NAME = re.compile(r"[^\s(){}\[\],.;:→λ\"`|]+")
-DASHED = re.compile(r"[^\W\d_].*-|-.*[^\W\d_]")
+DASHED = re.compile(r"[^\W\d_].*-")
 CAMEL = re.compile(r"^[a-z]+(?:[A-Z][a-z]+)+")
 # names that would fall together with another one, and one whose word the library has renamed
 BY_HAND = {
@@ -23,7 +23,8 @@ BY_HAND = {
     "No-character": "NamesNoCharacter",  # the fault NoCharacter
     "getD-packed": "get_or_packed",
 }
-FOREIGN = re.compile(r"use ((?:Rattle\.std|Prim|base|denote|lib|logic|mathlib|native|proof|tactic|types)\b[^{;\n]*)\.\{([^}]*)\}")
+# an import of what is not ours: whatever lies outside Rattle's crates, and std
+FOREIGN = re.compile(r"use (?!Rattle\.(?!std\b))([^{;\n]*)\.\{([^}]*)\}")
 DECLARED = re.compile(
     r"^\s*(?:(?:abbrev|unfoldable|opaque|pub|record|data|module|let)\s+)*([^\s(){}\[\],.;:→λ\"`|]+)(?=[^=\n]*? :)"
 )
@@ -102,9 +103,20 @@ def local_names(text):
     }
 
 
-def turned(line, names, mark):
+def is_made(code, at, name):
+    """Whether Rattle made the name: `c.loop-k.next-is` (of a branch `w.next-is`) says what the local `next` is."""
+    path = re.search(r"[\w.'-]*$", code[:at]).group(0)
+    return path.startswith(("c.", "w.")) and name.endswith("-is")
+
+
+def turned(line, names, mark, proof=False):
     code, comment = code_of(line, mark)
-    return NAME.sub(lambda m: spelled(m.group(0)) if m.group(0) in names else m.group(0), code) + comment
+
+    def word(m):
+        n = m.group(0)
+        return n if n not in names or (proof and is_made(code, m.start(), n)) else spelled(n)
+
+    return NAME.sub(word, code) + comment
 
 
 def write(path, old, new):
@@ -133,7 +145,7 @@ def turn_antt(own):
         for n in sorted(plain & names):
             if spelled(n) in plain:
                 print("stands already:", path, n, "as", spelled(n))
-        new = "\n".join(turned(l, names, "--") for l in text.split("\n"))
+        new = "\n".join(turned(l, names, "--", not is_lemma_file(path)) for l in text.split("\n"))
         write(path, text, new)
 
 

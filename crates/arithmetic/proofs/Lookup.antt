@@ -1,5 +1,5 @@
 -- What tables that follow their rule hold, and products and inverses by them. Assumes nothing.
-use Rattle.std.proofs.Common.{◌≡◌, ℕ, zero, suc, ◌+◌, ◌-◌, ◌*◌, ◌%◌, ◌<◌, ◌≤◌, Bool, T, eqb, List, get_or, sym, refl, ap, ◌∙◌, subst, ap₂, add-one, arith, eqb→eq}
+use Rattle.std.proofs.Common.{◌≡◌, ℕ, zero, suc, ◌+◌, ◌-◌, ◌*◌, ◌%◌, ◌<◌, ◌≤◌, Bool, T, eqb, List, get_or, sym, ap, ◌∙◌, ap₂, add-one, arith, eqb→eq}
 use Rattle.arithmetic.specs.Laws.{power}
 use Rattle.arithmetic.specs.Polynomials.{twice, product, inverse, polynomials}
 use Rattle.arithmetic.specs.Tables.{Tables}
@@ -7,7 +7,7 @@ use Rattle.arithmetic.specs.EachBelow.{both, both_left, both_right, below, below
 use Rattle.arithmetic.specs.Linear.{shifted, shifted_add}
 use Rattle.arithmetic.specs.Computed.{log, log_below, log_right}
 use Rattle.arithmetic.specs.Algebra.{power_two, power_add, rounds, product_low, product_comm}
-use Rattle.arithmetic.specs.Inverses.{nothing_times, inverse_nothing, inverse_low, inverse_shifted}
+use Rattle.arithmetic.specs.Inverses.{nothing_times, inverse_low, inverse_shifted}
 
 -- ---- the rule as one test over both tables
 

@@ -1,12 +1,12 @@
 -- The inverse is the power 510, and the laws hold. Assumes nothing.
-use Rattle.std.specs.Prelude.{◌≡◌, ℕ, zero, suc, ◌+◌, ◌*◌, ◌%◌, ◌<◌, ◌≤◌, Bool, true, false, cond, T, ◌⊎◌, ◌==◌, ◌≢◌, nat_eq, refl}
+use Rattle.std.specs.Prelude.{◌≡◌, ℕ, zero, suc, ◌*◌, ◌%◌, ◌<◌, ◌≤◌, Bool, true, false, cond, T, ◌==◌, ◌≢◌, nat_eq, refl}
 use Rattle.std.proofs.Common.{sym, ap, ap₂, ◌∙◌, subst, inl, inr, mod-eq_of_lt, not-suc-le-zero, le_of_suc-le-suc, eq-or-lt_of_le, arith, eqb→eq, lit<, lit≤}
 use Rattle.std.proofs.Math.Dec.{eqb_refl}
 use Rattle.std.proofs.lemmas.Nat.{xor_comm}
 use Rattle.std.specs.Int.Bits.{xor_zero_r, xor_self}
 use Rattle.arithmetic.specs.Laws.{power, Lawful}
 use Rattle.arithmetic.specs.Polynomials.{sum, product, undoing, inverse, polynomials}
-use Rattle.arithmetic.specs.Linear.{shifted, shifted_add}
+use Rattle.arithmetic.specs.Linear.{shifted}
 use Rattle.arithmetic.specs.Computed.{log, log_right, log_of}
 use Rattle.arithmetic.specs.Algebra.{low, by_zero, sum_below, product_below, sum_assoc, product_assoc, distributes, product_one, product_comm, product_powers, power_shifted, rounds, product_low, power_low, power_two}
 

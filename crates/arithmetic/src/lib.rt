@@ -1,4 +1,6 @@
 //! Field arithmetic: an interface with laws, and two arithmetics of one field that agree.
+#![tactic(auto)]
+
 ghost use Rattle.std.specs.Prelude.{◌≡◌, ℕ, ◌<◌};
 ghost use Rattle.arithmetic.specs.Laws.{Operations, Lawful, elements};
 

@@ -2,6 +2,7 @@
 use Rattle.std.specs.Prelude.{◌≡◌, ℕ, ◌<◌, ◌⊎◌, List, length, replicate, ℤ, pos, Ok, Err, Result, ◌≢◌, slice_set}
 use Rattle.refusal.specs.declared.kinds.Refusal.{Refusal}
 use Rattle.arithmetic.specs.Laws.{Operations}
+use Rattle.arithmetic.specs.declared.Arithmetic.{Ghosts}
 use Rattle.codec.specs.Calls.{Answers, send, receive, periods_of, lock_after, sender_end, receiver_end}
 use Rattle.codec.specs.Ends.{End, Later}
 use Rattle.codec.specs.Locks.{new_lock}
@@ -28,12 +29,12 @@ pub record Standing : Type 0 where
   pub line : List ℤ
 
 -- where a bench stands, from the parts of its ends
-abbrev pub standing : {A S L : Type 0} → (A → Operations) → (S → ℕ → ℕ) → (L → ℕ → ℤ × ℤ) → Bench A S L → Standing
+abbrev pub standing : {A S L : Type 0} {g : Ghosts A} → (A → Operations) → (S → ℕ → ℕ) → (L → ℕ → ℤ × ℤ) → Bench A S L g → Standing
 standing field mask pair bench =
     record { sender = sender_end field mask pair bench.sender; receiver = receiver_end field mask pair bench.receiver; lock = bench.receiver.lock; line = bench.line }
 
 -- where a new bench stands: its line is zeros
-abbrev pub stands_new : {A S L : Type 0} → (A → Operations) → (S → ℕ → ℕ) → (L → ℕ → ℤ × ℤ) → Sender A S L → Receiver A S L → Standing
+abbrev pub stands_new : {A S L : Type 0} {g : Ghosts A} → (A → Operations) → (S → ℕ → ℕ) → (L → ℕ → ℤ × ℤ) → Sender A S L g → Receiver A S L g → Standing
 stands_new field mask pair sender receiver =
     record { sender = sender_end field mask pair sender; receiver = receiver_end field mask pair receiver; lock = receiver.lock; line = replicate 2700 (pos 0) }
 

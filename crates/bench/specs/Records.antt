@@ -41,7 +41,7 @@ pub record IsHit (payload : List ℕ) (hit : Hit) : Type 0 where
   pub octets : payload ≡ two_octets hit.place ++ written ∷ []
   pub inside : hit.place < 2700
   pub ternary : written < 3
-  pub symbol : hit.symbol ≡ pos written _ℤ pos 1
+  pub symbol : hit.symbol ≡ pos written -ℤ pos 1
 
 abbrev pub IsNoHit : List ℕ → Type 0
 IsNoHit payload = (hit : Hit) → IsHit payload hit → ⊥

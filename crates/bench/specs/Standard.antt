@@ -1,6 +1,7 @@
 -- The bench that the console drives. Assumes nothing.
 use Rattle.std.specs.Prelude.{replicate, pos}
 use Rattle.arithmetic.specs.Polynomials.{polynomials}
+use Rattle.arithmetic.specs.declared.Arithmetic.{Ghosts}
 use Rattle.arithmetic.specs.declared.tabled.Tabled.{Tabled}
 use Rattle.lines.specs.LineCodes.{ring_pair}
 use Rattle.lines.specs.Scramblers.{scrambler_mask}
@@ -13,7 +14,7 @@ use Rattle.bench.specs.Benches.{Standing, standing}
 use Rattle.bench.specs.declared.bench.Bench.{Bench}
 
 -- what these parts of an end mean
-abbrev pub stands : Bench Tabled Scrambler Ring → Standing
+abbrev pub stands : {g : Ghosts Tabled} → Bench Tabled Scrambler Ring g → Standing
 stands bench = standing (λ _. polynomials) (λ s k. scrambler_mask s.role s.state k) (λ _ w. ring_pair w) bench
 
 -- the master at state 1, over the polynomials and the ring code

@@ -1,4 +1,6 @@
 //! The bench: records that drive two ends over a line, and the lines that are printed of them.
+#![tactic(auto)]
+
 mod bench;
 mod carrying;
 mod faults;

@@ -29,5 +29,6 @@ impl fmt::Display for Printed {
 pub fn print_line(printed: Printed, out: &mut String) -> fmt::Result
     ensures adds_the_line { OnOk result (string_bytes out.new ≡ string_bytes out.old ++ line_of printed) }
 {
-    writeln!(out, "{printed}")
+    writeln!(out, "{printed}")?;
+    Ok(())
 }

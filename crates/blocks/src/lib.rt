@@ -1,4 +1,6 @@
 //! Characters, the blocks that carry them, and the cycles that become them.
+#![tactic(auto)]
+
 mod ahead;
 mod block;
 mod character;

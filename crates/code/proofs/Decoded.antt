@@ -1,8 +1,8 @@
 -- A word of the code that is near is found from any polynomial that the sums annul. Assumes nothing.
 use Rattle.std.proofs.Common.{◌≡◌, ℕ, zero, suc, ◌+◌, ◌<◌, ◌≤◌, Bool, true, false, cond, ◌≢◌, ◌⊎◌, List, [], ◌∷◌, ◌++◌, length, filter, sym, refl, ap, ◌∙◌, inl, inr, arith, length-append, eqb-true}
 use native.Mathlib.Decide.{ℕ_discrete, dec_lt}
-use borrow.Author.Tests.{eqb_false}
-use Rattle.std.specs.List.{AllByRecursion as All}
+use borrow.Author.Tests.{eqb-false}
+use Rattle.std.specs.List.{AllByRecursion}
 use Rattle.std.proofs.ByRecursion.{All-weaker, kept_by_passes}
 use Rattle.arithmetic.specs.Laws.{Operations, Lawful, power, elements, longest}
 use Rattle.code.specs.Words.{coefficient, below, distance, sum, syndrome}
@@ -50,7 +50,7 @@ module _ {F : Operations} (laws : Lawful F) where
 
   -- a polynomial of as many coefficients as there are suspects, that vanishes at all of them, and a suspect i
   module _ (p q : List ℕ) (n : ℕ) (short : n ≤ longest) (a : ℕ) (long : suc (length q) ≡ length (suspects p n))
-      (zeros : All (λ k. eval_monic F (a ∷ q) (point k) ≡ 0) (suspects p n)) (i : ℕ) (h : i < n) (here : is_root F p i ≡ true) where
+      (zeros : AllByRecursion (λ k. eval_monic F (a ∷ q) (point k) ≡ 0) (suspects p n)) (i : ℕ) (h : i < n) (here : is_root F p i ≡ true) where
     at_suspect : (k : ℕ) → k < n → is_root F p k ≡ true → eval_monic F (a ∷ q) (point k) ≡ 0
     at_suspect k b r = elim (below_all _ n k b (all_or_fails _ _ (below n) zeros)) [
       | inl off ↦ (let z : true ≡ false = sym r ∙ off in let y : ◌≡◌ {A = ℕ} 0 1 = cc in absurd (omega arith))
@@ -66,14 +66,14 @@ module _ {F : Operations} (laws : Lawful F) where
     all_zero : eval_monic F (quotient F q (point i)) (point i) ≡ 0 → (k : ℕ) → k < n → is_root F p k ≡ true → eval_monic F (quotient F q (point i)) (point k) ≡ 0
     all_zero e k b r = elim (ℕ_discrete k i) [ yes s ↦ ap (λ m. eval_monic F (quotient F q (point i)) (point m)) s ∙ e | no d ↦ others_zero k b d r ]
 
-    all_of : (P : ℕ → Type 0) → ((k : ℕ) → k < n → is_root F p k ≡ true → P k) → All P (suspects p n)
+    all_of : (P : ℕ → Type 0) → ((k : ℕ) → k < n → is_root F p k ≡ true → P k) → AllByRecursion P (suspects p n)
     all_of P g = all_both _ _ _ (λ k b r. g k b r) (suspects p n) (within n (λ k b. b)) (kept_by_passes (is_root F p) (below n))
       where
-        within : (m : ℕ) → ((k : ℕ) → k < m → k < n) → All (λ k. k < n) (filter (is_root F p) (below m))
+        within : (m : ℕ) → ((k : ℕ) → k < m → k < n) → AllByRecursion (λ k. k < n) (filter (is_root F p) (below m))
         within zero s = tt
         within (suc m) s = go (is_root F p m) (within m (λ k b. s k (omega arith)))
           where
-            go : (b : Bool) → All (λ k. k < n) (filter (is_root F p) (below m)) → All (λ k. k < n) (cond b (m ∷ filter (is_root F p) (below m)) (filter (is_root F p) (below m)))
+            go : (b : Bool) → AllByRecursion (λ k. k < n) (filter (is_root F p) (below m)) → AllByRecursion (λ k. k < n) (cond b (m ∷ filter (is_root F p) (below m)) (filter (is_root F p) (below m)))
             go true r = (s m (omega arith), r)
             go false r = r
 
@@ -96,7 +96,7 @@ module _ {F : Operations} (laws : Lawful F) where
         places : List ℕ
         places = filter (differs w v) (below (length w))
 
-        all : All (λ k. eval F (p ++ (1 ∷ [])) (point k) ≡ 0) places
+        all : AllByRecursion (λ k. eval F (p ++ (1 ∷ [])) (point k) ≡ 0) places
         all = cover_given laws (λ k. coefficient w k ⊕ coefficient v k) point (λ k. plus_below _ _) (power_below laws F.alpha) places
             (apart_kept _ _ (below (length w)) (apart_powers laws (length w) short))
             (All-weaker _ _ (λ k d z. other_at w v k d (same_of_sum_zero laws _ _ (wb k) (vb k) z)) places (kept_by_passes (differs w v) (below (length w))))
@@ -106,7 +106,7 @@ module _ {F : Operations} (laws : Lawful F) where
 
     -- at a root, the correction is the difference
     valued : (p q : List ℕ) → length p ≤ t → ((i : ℕ) → i < length w → (coefficient w i ≡ coefficient v i) ⊎ (eval_monic F p (point i) ≡ 0))
-        → (a : ℕ) → suc (length q) ≡ length (suspects p (length w)) → All (λ k. eval_monic F (a ∷ q) (point k) ≡ 0) (suspects p (length w))
+        → (a : ℕ) → suc (length q) ≡ length (suspects p (length w)) → AllByRecursion (λ k. eval_monic F (a ∷ q) (point k) ≡ 0) (suspects p (length w))
         → (i : ℕ) → i < length w → is_root F p i ≡ true → correction F s (a ∷ q) i ≡ coefficient w i ⊕ coefficient v i
     valued p q few loc a long zeros i h here =
         ap (λ z. z ⊗ F.inverse (at i)) measured
@@ -136,7 +136,7 @@ module _ {F : Operations} (laws : Lawful F) where
             go false r = elim (loc k b) [
               | inl same ↦ ap (λ z. z ⊗ eval F (rest ++ (1 ∷ [])) (point k) ⊗ 1) (ap (λ z. z ⊕ coefficient v k) same ∙ plus_self _)
                   ∙ ap (λ z. z ⊗ 1) (times_zero_left laws _) ∙ times_zero_left laws 1
-              | inr root ↦ absurd (eqb_false _ _ r root)
+              | inr root ↦ absurd (eqb-false _ _ r root)
             ]
 
         room : (k : ℕ) → k < 0 + length (rest ++ (1 ∷ [])) → k < t + t
@@ -154,18 +154,18 @@ module _ {F : Operations} (laws : Lawful F) where
 
     -- whatever the locator p, as long as the sums annul it, and whatever the product q over its roots
     pub decoded : (p q : List ℕ) → length p ≤ t → ((j : ℕ) → j < t → dot_monic F p s j ≡ 0)
-        → length q ≡ length (suspects p (length w)) → All (λ k. eval_monic F q (point k) ≡ 0) (suspects p (length w)) → (i : ℕ) → i < length w
+        → length q ≡ length (suspects p (length w)) → AllByRecursion (λ k. eval_monic F q (point k) ≡ 0) (suspects p (length w)) → (i : ℕ) → i < length w
         → cond (is_root F p i) (coefficient w i ⊕ correction F s q i) (coefficient w i) ≡ coefficient v i
     decoded p q few annuls long zeros i h = go (is_root F p i) refl q long zeros
       where
         loc : (k : ℕ) → k < length w → (coefficient w k ≡ coefficient v k) ⊎ (eval_monic F p (point k) ≡ 0)
         loc = located p few annuls
 
-        go : (b : Bool) → is_root F p i ≡ b → (q : List ℕ) → length q ≡ length (suspects p (length w)) → All (λ k. eval_monic F q (point k) ≡ 0) (suspects p (length w))
+        go : (b : Bool) → is_root F p i ≡ b → (q : List ℕ) → length q ≡ length (suspects p (length w)) → AllByRecursion (λ k. eval_monic F q (point k) ≡ 0) (suspects p (length w))
             → cond b (coefficient w i ⊕ correction F s q i) (coefficient w i) ≡ coefficient v i
         go true d [] n z = elim (below_all _ (length w) i h (all_or_fails _ _ (below (length w)) z)) [
           | inl off ↦ (let y : ◌≡◌ {A = ℕ} 0 1 = cc in absurd (omega arith))
           | inr one ↦ (let y : ◌≡◌ {A = ℕ} 1 0 = one in absurd (omega arith))
         ]
         go true d (a ∷ r) n z = ap (λ y. coefficient w i ⊕ y) (valued p r few loc a n z i h d) ∙ plus_self_left laws _ _ (vb i)
-        go false d r n z = elim (loc i h) [ inl same ↦ same | inr root ↦ absurd (eqb_false _ _ d root) ]
+        go false d r n z = elim (loc i h) [ inl same ↦ same | inr root ↦ absurd (eqb-false _ _ d root) ]

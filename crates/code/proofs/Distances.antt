@@ -1,8 +1,8 @@
 -- In how many places two words differ. Assumes nothing.
 use Rattle.std.proofs.Common.{◌≡◌, ℕ, zero, suc, ◌+◌, ◌-◌, ◌<◌, ◌≤◌, Bool, true, false, cond, not, eqb, ◌≢◌, List, [], ◌∷◌, length, get_or, take, drop, filter, sym, refl, ap, ◌∙◌, subst, arith, eq-eqb, eqb-true}
 use native.Mathlib.Decide.{ℕ_discrete}
-use borrow.Author.Tests.{eqb_false, not_true, not_false}
-use Rattle.std.specs.List.{AllByRecursion as All}
+use borrow.Author.Tests.{eqb-false, not-true, not-false}
+use Rattle.std.specs.List.{AllByRecursion}
 use Rattle.std.proofs.lemmas.List.{drop_more}
 use Rattle.code.specs.Words.{coefficient, below, distance}
 
@@ -11,16 +11,16 @@ abbrev pub differs : List ℕ → List ℕ → ℕ → Bool
 differs u v i = not (eqb (coefficient u i) (coefficient v i))
 
 pub same_at : (u v : List ℕ) (i : ℕ) → differs u v i ≡ false → coefficient u i ≡ coefficient v i
-same_at u v i e = eqb-true _ _ (not_false _ e)
+same_at u v i e = eqb-true _ _ (not-false _ e)
 
 pub other_at : (u v : List ℕ) (i : ℕ) → differs u v i ≡ true → coefficient u i ≢ coefficient v i
-other_at u v i e z = eqb_false _ _ (not_true _ e) z
+other_at u v i e z = eqb-false _ _ (not-true _ e) z
 
-pub all_below : (P : ℕ → Type 0) (n : ℕ) → ((i : ℕ) → i < n → P i) → All P (below n)
+pub all_below : (P : ℕ → Type 0) (n : ℕ) → ((i : ℕ) → i < n → P i) → AllByRecursion P (below n)
 all_below P zero f = tt
 all_below P (suc n) f = (f n (omega arith), all_below P n (λ i h. f i (omega arith)))
 
-pub below_all : (P : ℕ → Type 0) (n i : ℕ) → i < n → All P (below n) → P i
+pub below_all : (P : ℕ → Type 0) (n i : ℕ) → i < n → AllByRecursion P (below n) → P i
 below_all P zero i h a = absurd (omega arith)
 below_all P (suc n) i h a = elim (ℕ_discrete i n) [ yes e ↦ subst P (sym e) a.0 | no k ↦ below_all P n i (omega arith) a.1 ]
 

@@ -2,13 +2,13 @@
 use Rattle.std.proofs.Common.{◌≡◌, ℕ, suc, ◌<◌, List, [], ◌∷◌, length, sym, refl, ap, ◌∙◌, arith}
 use mathlib.Core.Path.{fun_ext}
 use Rattle.arithmetic.specs.Laws.{Operations, Lawful, power, elements}
-use Rattle.std.specs.List.{AllByRecursion as All}
+use Rattle.std.specs.List.{AllByRecursion}
 use Rattle.std.proofs.ByRecursion.{All-weaker}
 use Rattle.code.specs.Words.{sum}
 use Rattle.code.specs.Polynomials.{Apart, dot, eval, moment}
 use Rattle.code.proofs.Basic.{plus_zero_left, plus_zero_right, times_one_right, times_zero_left, times_zero_right, distrib_right, plus_left_comm, times_left_comm, same_of_sum_zero, zero_of_times}
 
-pub all_both : {A : Type 0} (P Q R : A → Type 0) → ((t : A) → P t → Q t → R t) → (ts : List A) → All P ts → All Q ts → All R ts
+pub all_both : {A : Type 0} (P Q R : A → Type 0) → ((t : A) → P t → Q t → R t) → (ts : List A) → AllByRecursion P ts → AllByRecursion Q ts → AllByRecursion R ts
 all_both P Q R f [] p q = tt
 all_both P Q R f (t ∷ ts) p q = (f t p.0 q.0, all_both P Q R f ts p.1 q.1)
 
@@ -33,11 +33,11 @@ module _ {F : Operations} (laws : Lawful F) where
   sum_times k f [] = sym (times_zero_right laws k)
   sum_times k f (t ∷ ts) = rw (sum, sum_times k f ts) (sym (distributes k (f t) _))
 
-  pub sum_zero : {A : Type 0} (f : A → ℕ) (ts : List A) → All (λ t. f t ≡ 0) ts → sum F f ts ≡ 0
+  pub sum_zero : {A : Type 0} (f : A → ℕ) (ts : List A) → AllByRecursion (λ t. f t ≡ 0) ts → sum F f ts ≡ 0
   sum_zero f [] h = refl
   sum_zero f (t ∷ ts) h = rw (sum, h.0, sum_zero f ts h.1) (plus_self 0)
 
-  pub all_any : {A : Type 0} (P : A → Type 0) → ((t : A) → P t) → (ts : List A) → All P ts
+  pub all_any : {A : Type 0} (P : A → Type 0) → ((t : A) → P t) → (ts : List A) → AllByRecursion P ts
   all_any P f [] = tt
   all_any P f (t ∷ ts) = (f t, all_any P f ts)
 
@@ -64,7 +64,7 @@ module _ {F : Operations} (laws : Lawful F) where
 
   -- terms at different points whose first moments vanish, as many as there are terms, vanish
   pub separate : {A : Type 0} (c x : A → ℕ) → ((t : A) → c t < elements) → ((t : A) → x t < elements)
-      → (ts : List A) → Apart x ts → ((j : ℕ) → j < length ts → moment F c x ts j ≡ 0) → All (λ t. c t ≡ 0) ts
+      → (ts : List A) → Apart x ts → ((j : ℕ) → j < length ts → moment F c x ts j ≡ 0) → AllByRecursion (λ t. c t ≡ 0) ts
   separate c x cb xb [] d m = tt
   separate c x cb xb (t ∷ ts) d m =
       let head : (j : ℕ) → c t ⊗ (x t ⊕ x t) ⊗ power F (x t) j ≡ 0 = λ j. simp (plus_self, times_zero_right laws, times_zero_left laws) in
@@ -73,8 +73,8 @@ module _ {F : Operations} (laws : Lawful F) where
       ∙ ap (λ z. z ⊕ moment F (λ s. c s ⊗ (x s ⊕ x t)) x ts j) (sym (head j))
       ∙ shifted c x (x t) (t ∷ ts) j
       ∙ rw (m (suc j) (omega arith), m j (omega arith), times_zero_right laws) (plus_self 0) in
-      let rest : All (λ s. c s ⊗ (x s ⊕ x t) ≡ 0) ts = separate (λ s. c s ⊗ (x s ⊕ x t)) x (λ s. times_below _ _) xb ts d.1 next in
-      let zeros : All (λ s. c s ≡ 0) ts =
+      let rest : AllByRecursion (λ s. c s ⊗ (x s ⊕ x t) ≡ 0) ts = separate (λ s. c s ⊗ (x s ⊕ x t)) x (λ s. times_below _ _) xb ts d.1 next in
+      let zeros : AllByRecursion (λ s. c s ≡ 0) ts =
       all_both _ _ _ (λ s n z. zero_of_times laws (x s ⊕ x t) (c s) (plus_below _ _) (cb s) (λ e. n (same_of_sum_zero laws _ _ (xb s) (xb t) e)) (times_comm _ _ ∙ z)) ts d.0 rest in
       let none : sum F (λ s. c s ⊗ 1) ts ≡ 0 = sum_zero _ ts (All-weaker _ _ (λ s z. ap (λ v. v ⊗ 1) z ∙ times_zero_left laws 1) ts zeros) in
       (sym (times_one_right laws _ (cb t)) ∙ sym (plus_zero_right laws _ (times_below _ _)) ∙ ap (λ z. c t ⊗ 1 ⊕ z) (sym none) ∙ m 0 (omega arith), zeros)

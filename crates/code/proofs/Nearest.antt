@@ -1,6 +1,6 @@
 -- The word with the corrections is the codeword that is near. Assumes nothing.
-use Rattle.std.proofs.Common.{◌≡◌, ℕ, ◌+◌, ◌-◌, ◌<◌, ◌≤◌, cond, eqb, List, length, get_or, take, filter, sym, ap, ◌∙◌, subst, arith}
-use Rattle.std.specs.List.{AllByRecursion as All}
+use Rattle.std.proofs.Common.{◌≡◌, ℕ, ◌+◌, ◌<◌, ◌≤◌, cond, eqb, List, length, get_or, take, filter, sym, ap, ◌∙◌, subst, arith}
+use Rattle.std.specs.List.{AllByRecursion}
 use Rattle.std.proofs.ByRecursion.{All-from_get_or}
 use Rattle.std.proofs.lemmas.List.{get_or-take, length-take-le}
 use Rattle.arithmetic.specs.Laws.{Operations, Lawful, power, elements, longest}
@@ -13,11 +13,11 @@ use Rattle.code.proofs.Unique.{coefficients_same}
 use Rattle.code.proofs.Decoded.{decoded, suspects, root_count}
 
 -- what stands at the places found, as one statement over all of them
-pub vanishes_all : (F : Operations) (p at ks : List ℕ) (n : ℕ) → n ≤ length at → take n at ≡ ks → Vanishes F (place_point F at) n p → All (λ k. eval_monic F p (power F F.alpha k) ≡ 0) ks
+pub vanishes_all : (F : Operations) (p at ks : List ℕ) (n : ℕ) → n ≤ length at → take n at ≡ ks → Vanishes F (place_point F at) n p → AllByRecursion (λ k. eval_monic F p (power F F.alpha k) ≡ 0) ks
 vanishes_all F p at ks n h e z =
     let P : ℕ → Type 0 = λ k. eval_monic F p (power F F.alpha k) ≡ 0 in
     let long : length (take n at) ≡ n = length-take-le n at h in
-    subst (All P) e (All-from_get_or P (take n at) 0 (λ i l. let b : i < n = omega arith in subst P (sym (get_or-take n at i 0 b)) (z i b)))
+    subst (AllByRecursion P) e (All-from_get_or P (take n at) 0 (λ i l. let b : i < n = omega arith in subst P (sym (get_or-take n at i 0 b)) (z i b)))
 
 module _ {F : Operations} (laws : Lawful F) (p values : List ℕ) (n : ℕ) (short : n ≤ longest) (lv : length values ≡ n)
     (at : (i : ℕ) → i < n → get_or values i 0 ≡ eval_monic F p (power F F.alpha i)) where
@@ -35,13 +35,13 @@ module _ {F : Operations} (laws : Lawful F) (p values : List ℕ) (n : ℕ) (sho
   pub nearest : (w w' s q : List ℕ) (t : ℕ) → length w ≡ n → length w' ≡ n → ((i : ℕ) → coefficient w i < elements)
       → ((j : ℕ) → reads s j < elements) → ((j : ℕ) → j < t + t → reads s j ≡ syndrome F w j)
       → length p ≤ t → ((j : ℕ) → j < t → dot_monic F p (reads s) j ≡ 0)
-      → length q ≡ length (suspects laws p n) → All (λ k. eval_monic F q (power F F.alpha k) ≡ 0) (suspects laws p n)
+      → length q ≡ length (suspects laws p n) → AllByRecursion (λ k. eval_monic F q (power F F.alpha k) ≡ 0) (suspects laws p n)
       → ((i : ℕ) → i < n → coefficient w' i ≡ restored F values s q w i)
       → (v : List ℕ) → length v ≡ n → ((i : ℕ) → coefficient v i < elements) → ((j : ℕ) → j < t + t → syndrome F v j ≡ 0) → distance w v ≤ t → v ≡ w'
   nearest w w' s q t lw lw' wb sb sw few annuls long zeros right v lenv vb sv near =
       coefficients_same v w' (lenv ∙ sym lw') (λ i h.
       let b : i < n = omega arith in
-      let P : ℕ → Type 0 = λ m. All (λ k. eval_monic F q (power F F.alpha k) ≡ 0) (suspects laws p m) in
+      let P : ℕ → Type 0 = λ m. AllByRecursion (λ k. eval_monic F q (power F F.alpha k) ≡ 0) (suspects laws p m) in
       sym (right i b
       ∙ ap (λ z. cond z (F.plus (coefficient w i) (correction F (reads s) q i)) (coefficient w i)) (zero_root i b)
       ∙ decoded laws w v (lw ∙ sym lenv) (omega arith) wb vb t near sv (reads s) sb sw p q few annuls (long ∙ ap (λ m. length (suspects laws p m)) (sym lw)) (subst P (sym lw) zeros) i (omega arith)))

@@ -1,7 +1,7 @@
 -- A monic polynomial has at most as many roots as its degree. Assumes nothing.
 use Rattle.std.proofs.Common.{◌≡◌, ℕ, suc, ◌<◌, ◌≤◌, ◌≢◌, List, [], ◌∷◌, ◌++◌, length, sym, refl, ap, ◌∙◌, arith}
 use Rattle.arithmetic.specs.Laws.{Operations, Lawful, elements}
-use Rattle.std.specs.List.{AllByRecursion as All}
+use Rattle.std.specs.List.{AllByRecursion}
 use Rattle.code.specs.Polynomials.{Apart, eval, eval_monic, quotient}
 use Rattle.code.proofs.Basic.{plus_zero_right, times_zero_right, distrib_right, plus_left_comm, times_left_comm, plus_self_left, same_of_sum_zero, zero_of_times}
 use Rattle.code.proofs.Moments.{all_both}
@@ -46,11 +46,11 @@ module _ {F : Operations} (laws : Lawful F) where
       same_of_sum_zero_any : (y : ℕ) → a ⊕ y ⊗ eval_monic F p y ≡ 0 → y ⊗ eval_monic F p y ≡ 0 ⊕ a
       same_of_sum_zero_any y e = sym (plus_self_left laws a _ (times_below _ _)) ∙ ap (λ z. a ⊕ z) e ∙ plus_comm a 0
 
-  pub roots : {A : Type 0} (x : A → ℕ) → ((t : A) → x t < elements) → (ts : List A) (p : List ℕ) → Apart x ts → All (λ t. eval_monic F p (x t) ≡ 0) ts → length ts ≤ length p
+  pub roots : {A : Type 0} (x : A → ℕ) → ((t : A) → x t < elements) → (ts : List A) (p : List ℕ) → Apart x ts → AllByRecursion (λ t. eval_monic F p (x t) ≡ 0) ts → length ts ≤ length p
   roots x xb [] p d z = omega arith
   roots x xb (t ∷ ts) [] d z = let k : ◌≡◌ {A = ℕ} 1 0 = z.0 in omega arith
   roots x xb (t ∷ ts) (a ∷ p) d z =
-      let next : All (λ s. eval_monic F (quotient F p (x t)) (x s) ≡ 0) ts =
+      let next : AllByRecursion (λ s. eval_monic F (quotient F p (x t)) (x s) ≡ 0) ts =
       all_both _ _ _ (λ s n e. quotient_root a p (x s) (x t) (xb s) (xb t) n z.0 e) ts d.0 z.1 in
       let k = roots x xb ts (quotient F p (x t)) d.1 next in
       omega (arith, length_quotient F p (x t))

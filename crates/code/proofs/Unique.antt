@@ -1,7 +1,7 @@
 -- Two words of the code that differ in few places are one. Assumes nothing.
 use Rattle.std.proofs.Common.{◌≡◌, ℕ, zero, suc, ◌-◌, ◌*◌, ◌<◌, ◌≤◌, Bool, true, false, cond, ◌≢◌, ◌⊎◌, List, [], ◌∷◌, length, get_or, filter, sym, refl, ap, ◌∙◌, inl, inr, arith}
 use Rattle.arithmetic.specs.Laws.{Operations, Lawful, power, elements, longest}
-use Rattle.std.specs.List.{AllByRecursion as All}
+use Rattle.std.specs.List.{AllByRecursion}
 use Rattle.std.proofs.ByRecursion.{all_kept_by}
 use Rattle.std.proofs.lemmas.List.{ext_get_or}
 use Rattle.code.specs.Words.{coefficient, below, distance, sum, syndrome}
@@ -21,17 +21,17 @@ pub apart_kept : {A : Type 0} (x : A → ℕ) (test : A → Bool) (ts : List A) 
 apart_kept x test [] a = tt
 apart_kept x test (t ∷ ts) a = go (test t) (all_kept_by test _ ts a.0) (apart_kept x test ts a.1)
   where
-    go : (b : Bool) → All (λ s. x s ≢ x t) (filter test ts) → Apart x (filter test ts) → Apart x (cond b (t ∷ filter test ts) (filter test ts))
+    go : (b : Bool) → AllByRecursion (λ s. x s ≢ x t) (filter test ts) → Apart x (filter test ts) → Apart x (cond b (t ∷ filter test ts) (filter test ts))
     go true n r = (n, r)
     go false n r = r
 
 -- what fails the test, or has what all that passes it has
-pub all_or_fails : {A : Type 0} (P : A → Type 0) (test : A → Bool) (ts : List A) → All P (filter test ts) → All (λ t. (test t ≡ false) ⊎ P t) ts
+pub all_or_fails : {A : Type 0} (P : A → Type 0) (test : A → Bool) (ts : List A) → AllByRecursion P (filter test ts) → AllByRecursion (λ t. (test t ≡ false) ⊎ P t) ts
 all_or_fails P test [] a = tt
 all_or_fails P test (t ∷ ts) a = go (test t) refl a (all_or_fails P test ts)
   where
-    go : (b : Bool) → test t ≡ b → All P (cond b (t ∷ filter test ts) (filter test ts)) → (All P (filter test ts) → All (λ s. (test s ≡ false) ⊎ P s) ts)
-        → ((test t ≡ false) ⊎ P t) × All (λ s. (test s ≡ false) ⊎ P s) ts
+    go : (b : Bool) → test t ≡ b → AllByRecursion P (cond b (t ∷ filter test ts) (filter test ts)) → (AllByRecursion P (filter test ts) → AllByRecursion (λ s. (test s ≡ false) ⊎ P s) ts)
+        → ((test t ≡ false) ⊎ P t) × AllByRecursion (λ s. (test s ≡ false) ⊎ P s) ts
     go true e h rest = (inr h.0, rest h.1)
     go false e h rest = (inl e, rest h)
 
@@ -71,7 +71,7 @@ module _ {F : Operations} (laws : Lawful F) where
     unique m short ub vb near su sv =
         let places = below (length u) in
         let few : length (filter (differs u v) places) ≤ m = omega (arith, distance_places u v l) in
-        let zeros : All (λ i. coefficient u i ⊕ coefficient v i ≡ 0) (filter (differs u v) places) =
+        let zeros : AllByRecursion (λ i. coefficient u i ⊕ coefficient v i ≡ 0) (filter (differs u v) places) =
         separate laws (λ i. coefficient u i ⊕ coefficient v i) (power F F.alpha) (λ i. plus_below _ _) (power_below laws F.alpha) (filter (differs u v) places)
         (apart_kept _ _ places (apart_powers (length u) short))
         (λ j h. moments_kept j ∙ rw (su j (omega arith), sv j (omega arith)) (plus_self 0)) in

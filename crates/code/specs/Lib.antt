@@ -4,4 +4,3 @@ pub mod Outcomes
 pub mod Polynomials
 pub mod Prepared
 pub mod Locating
-pub mod Kept

@@ -1,5 +1,5 @@
 -- The search for the damaged places. Assumes nothing.
-use Rattle.std.specs.Prelude.{◌≡◌, ℕ, ◌+◌, ◌-◌, ◌<◌, ◌≤◌, Bool, cond, List, [], ◌∷◌, ◌++◌, length, take, ◌==◌, slice_index}
+use Rattle.std.specs.Prelude.{◌≡◌, ℕ, ◌+◌, ◌<◌, ◌≤◌, Bool, cond, List, [], ◌∷◌, ◌++◌, length, take, ◌==◌, slice_index}
 use Rattle.arithmetic.specs.Laws.{Operations, power, elements}
 use Rattle.code.specs.Words.{coefficient, reach}
 use Rattle.code.specs.Polynomials.{dot_monic, reads, correction}

@@ -1,6 +1,6 @@
 -- Polynomials over a field, and moments of terms. Assumes nothing.
 use Rattle.std.specs.Prelude.{ℕ, suc, Bool, ◌≢◌, List, [], ◌∷◌, ◌++◌, length, drop, ◌==◌, slice_index}
-use Rattle.std.specs.List.{AllByRecursion as All}
+use Rattle.std.specs.List.{AllByRecursion}
 use Rattle.arithmetic.specs.Laws.{Operations, power}
 use Rattle.code.specs.Words.{sum}
 
@@ -80,4 +80,4 @@ module _ (f : Operations) where
 -- the points of the terms are pairwise different
 abbrev pub Apart : {A : Type 0} → (A → ℕ) → List A → Type 0
 Apart x [] = Unit {0}
-Apart x (t ∷ ts) = All (λ s. x s ≢ x t) ts × Apart x ts
+Apart x (t ∷ ts) = AllByRecursion (λ s. x s ≢ x t) ts × Apart x ts

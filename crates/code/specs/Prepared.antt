@@ -31,7 +31,3 @@ pub record Ready (f : Operations) (points : List ℕ) (rows steps : List (List �
   pub powers : Powers f points
   pub multiples : Multiples f parity rows
   pub products : Steps f parity steps
-
--- the same of the meaning that an arithmetic has
-abbrev pub Right : {A : Type 0} → (A → Operations) → A → List ℕ → List (List ℕ) → List (List ℕ) → Type 0
-Right field a points rows steps = Ready (field a) points rows steps

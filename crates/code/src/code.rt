@@ -11,7 +11,6 @@ use crate::mending::{candidate, changes};
 use crate::register::{divide, is_codeword, is_zero, remainder};
 use crate::shapes::Tables;
 use crate::sizes::{ELEMENTS, MESSAGE, REACH, SYMBOLS};
-use crate::sure::Sure;
 use crate::syndromes::syndromes;
 use crate::tables::{generator, multiples, powers, steps};
 use arithmetic::Arithmetic;
@@ -21,11 +20,7 @@ use arithmetic::Arithmetic;
 pub struct Code<A: Arithmetic> {
     arithmetic: A,
     tables: Tables,
-    sure: Sure<A>,
-    ghost same_arithmetic: { sure.of ≡ arithmetic },
-    ghost same_points: { sure.points ≡ tables.points },
-    ghost same_rows: { sure.rows ≡ tables.rows },
-    ghost same_steps: { sure.steps ≡ tables.steps },
+    ghost ready: { Ready (A.field arithmetic) tables.points tables.rows tables.steps },
 }
 
 /// The tables of an arithmetic.
@@ -77,19 +72,7 @@ impl<A: Arithmetic> Code<A> {
         ensures over { result.arithmetic ≡ arithmetic }
     {
         let tables = prepare(&arithmetic);
-        let sure = Sure::new(&arithmetic, &tables);
-        Code {
-            arithmetic,
-            tables,
-            sure,
-        }
-    }
-
-    /// What was prepared at making is still what the arithmetic has.
-    fn known(&self)
-        ensures { Ready (A.Arithmetic.field self.now.arithmetic) self.now.tables.points self.now.tables.rows self.now.tables.steps }
-    {
-        self.sure.know();
+        Code { arithmetic, tables }
     }
 
     /// Writes the last 44 symbols so that the word is a codeword.
@@ -98,7 +81,6 @@ impl<A: Arithmetic> Code<A> {
             (λ _. Completed (A.Arithmetic.field self.now.arithmetic) word.old word.new)
             (λ e. CompleteRefused word.old word.new (code_refusal e)) }
     {
-        self.known();
         check(word)?;
         let register = divide(&self.arithmetic, &self.tables.rows, &word[..MESSAGE]);
         word[MESSAGE..].copy_from_slice(&register);
@@ -111,7 +93,6 @@ impl<A: Arithmetic> Code<A> {
             (λ changed. Repaired (A.Arithmetic.field self.now.arithmetic) word.old word.new changed)
             (λ e. RepairRefused (A.Arithmetic.field self.now.arithmetic) word.old word.new (code_refusal e)) }
     {
-        self.known();
         check(word)?;
         let left = remainder(&self.arithmetic, &self.tables.rows, word);
         if is_zero(&left) {

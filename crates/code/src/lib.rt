@@ -1,4 +1,5 @@
 //! A code of words of 450 symbols, 44 of them checks, over any field of 512 elements.
+#![tactic(auto)]
 
 mod code;
 mod fault;
@@ -8,7 +9,6 @@ mod register;
 mod roots;
 mod shapes;
 mod sizes;
-mod sure;
 mod syndromes;
 mod tables;
 

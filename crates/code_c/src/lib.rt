@@ -1,4 +1,6 @@
 //! The code over the tabled arithmetic, for callers in C: words of 450 symbols, one after the other.
+#![tactic(auto)]
+
 ghost use Rattle.std.specs.Prelude.{ℕ, ◌+◌, ◌*◌, ◌<◌, ◌≤◌, length, slice_index};
 ghost use Rattle.arithmetic.specs.Polynomials.{polynomials};
 ghost use Rattle.code_c.specs.Batches.{word_at, Answered};

@@ -1,5 +1,7 @@
 //! Completes and repairs the words that it reads: a line is `complete` or `repair` and the symbols of a word, c449 first.
 //! Words are completed by one arithmetic and repaired by another.
+#![tactic(auto)]
+
 use arithmetic::{Shifting, Tabled};
 use code::{Code, CodeFault};
 use refusal::{Layer, Refusal};

@@ -1,6 +1,6 @@
 -- What follows of the law when every call is answered as its rule says. Assumes nothing.
 use Rattle.std.proofs.Common.{◌≡◌, ℕ, ◌<◌, Bool, true, false, cond, not, T, eqb, ltb, ◌⊎◌, ◌↔◌, List, [], ◌∷◌, ◌++◌, length, ℤ, sym, refl, ap, ◌∙◌, subst, inl, inr, lt_irrefl}
-use Rattle.std.specs.List.{flat_map, prefix_len, AllByRecursion as All}
+use Rattle.std.specs.List.{flat_map, prefix_len, AllByRecursion}
 use Rattle.codec.specs.Calls.{Call, send, sender_rest, receive, receiver_rest, fault_if, without_lock, wrong_length, wrong_number, checks, faults, beyond_repair, is_period, is_character, Performs, Answers, Accepts, GivesUp}
 use Rattle.codec.specs.Ends.{End, Agree}
 use Rattle.codec.specs.Histories.{Event, Occurs, Sends, Receives, at_sender, sender_periods, receiver_periods, lock_from}
@@ -19,29 +19,29 @@ use Rattle.codec.specs.declared.faults.LineFault.{LineFault}
 abbrev Early : EndFault → Type 0
 Early fault = is_period (Refused fault) ≡ false
 
-both : (xs ys : List EndFault) → All Early xs → All Early ys → All Early (xs ++ ys)
+both : (xs ys : List EndFault) → AllByRecursion Early xs → AllByRecursion Early ys → AllByRecursion Early (xs ++ ys)
 both [] ys p q = q
 both (x ∷ xs) ys p q = (p.0, both xs ys p.1 q)
 
-one : (b : Bool) (fault : EndFault) → Early fault → All Early (fault_if b fault)
+one : (b : Bool) (fault : EndFault) → Early fault → AllByRecursion Early (fault_if b fault)
 one true fault p = (p, tt)
 one false fault p = tt
 
-unlocked : (lock : Lock) → All Early (without_lock lock)
+unlocked : (lock : Lock) → AllByRecursion Early (without_lock lock)
 unlocked (Locked bad) = tt
 unlocked Lost = (refl, tt)
 
-length_early : {X : Type 0} (buffer right : ℕ) (xs : List X) → All Early (wrong_length buffer right xs)
+length_early : {X : Type 0} (buffer right : ℕ) (xs : List X) → AllByRecursion Early (wrong_length buffer right xs)
 length_early buffer right xs = one (not (eqb (length xs) right)) (EndFault.Length buffer) refl
 
-number_early : {X : Type 0} (kind : X → Bool) (fault : ℕ → EndFault) (xs : List X) → ((n : ℕ) → Early (fault n)) → All Early (wrong_number kind fault xs)
+number_early : {X : Type 0} (kind : X → Bool) (fault : ℕ → EndFault) (xs : List X) → ((n : ℕ) → Early (fault n)) → AllByRecursion Early (wrong_number kind fault xs)
 number_early kind fault xs p = one (ltb (prefix_len kind xs) (length xs)) (fault (prefix_len kind xs)) (p (prefix_len kind xs))
 
-all_early : (found : List (List EndFault)) → All (λ f. All Early f) found → All Early (flat_map (λ f. f) found)
+all_early : (found : List (List EndFault)) → AllByRecursion (λ f. AllByRecursion Early f) found → AllByRecursion Early (flat_map (λ f. f) found)
 all_early [] p = tt
 all_early (f ∷ found) p = both f (flat_map (λ g. g) found) p.0 (all_early found p.1)
 
-checks_early : (lock : Lock) (call : Call) → All (λ f. All Early f) (checks lock call)
+checks_early : (lock : Lock) (call : Call) → AllByRecursion (λ f. AllByRecursion Early f) (checks lock call)
 checks_early lock (send characters symbol line) = (
   length_early 0 450 characters,
   (
@@ -68,17 +68,17 @@ checks_early lock (receive line characters places) = (
 )
 checks_early lock receiver_rest = (unlocked lock, tt)
 
-pub early : (lock : Lock) (call : Call) → All Early (faults lock call)
+pub early : (lock : Lock) (call : Call) → AllByRecursion Early (faults lock call)
 unfolding faults
 early lock call = all_early (checks lock call) (checks_early lock call)
 
 -- a call that was a period had no early fault
-performed : {X : Type 0} (found : List EndFault) (left asked : Call) (outcome : Outcome) → All Early found
+performed : {X : Type 0} (found : List EndFault) (left asked : Call) (outcome : Outcome) → AllByRecursion Early found
     → elim found as (λ f. Type 0) [ [] ↦ X | fault ∷ more ↦ (left ≡ asked) × (outcome ≡ Refused fault) ] → T (is_period outcome) → X
 performed [] left asked outcome a h t = h
 performed (fault ∷ more) left asked outcome a h t = absurd (subst T (ap is_period h.1 ∙ a.0) t)
 
-unfaulted : (found : List EndFault) (left asked : Call) (outcome : Outcome) (X : Type 0) → All Early found
+unfaulted : (found : List EndFault) (left asked : Call) (outcome : Outcome) (X : Type 0) → AllByRecursion Early found
     → elim found as (λ f. Type 0) [ [] ↦ X | fault ∷ more ↦ (left ≡ asked) × (outcome ≡ Refused fault) ] → T (is_period outcome) → found ≡ []
 unfaulted [] left asked outcome X a h t = refl
 unfaulted (fault ∷ more) left asked outcome X a h t = absurd (subst T (ap is_period h.1 ∙ a.0) t)

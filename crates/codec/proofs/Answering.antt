@@ -1,6 +1,6 @@
 -- How a call comes to answer by its rule. Assumes nothing.
 use Rattle.std.proofs.Common.{◌≡◌, ℕ, ◌+◌, ◌*◌, Bool, false, cond, List, [], ◌∷◌, ℤ, Some, sym, refl, ap, ◌∙◌, subst, arith}
-use Rattle.std.specs.List.{AllByRecursion as All}
+use Rattle.std.specs.List.{AllByRecursion}
 use Rattle.codec.specs.Calls.{Call, faults, first_of, is_period, periods_of, lock_after, Performs, Answers}
 use Rattle.codec.specs.Ends.{End, made_over, Later}
 use Rattle.codec.specs.declared.faults.EndFault.{EndFault}
@@ -21,7 +21,7 @@ turned_away X (f ∷ more) asked left outcome fault e h r = let same : fault ≡
 pub refused : (end : End) (period : ℕ) (lock : Lock) (asked : Call) (fault : EndFault) → first_of (faults lock asked) ≡ Some fault → Answers end period lock asked asked (Refused fault)
 refused end period lock asked fault e = turned_away (Performs end period asked asked (Refused fault)) (faults lock asked) asked asked (Refused fault) fault e refl refl
 
-first_early : (found : List EndFault) (fault : EndFault) → All (λ f. is_period (Refused f) ≡ false) found → first_of found ≡ Some fault → is_period (Refused fault) ≡ false
+first_early : (found : List EndFault) (fault : EndFault) → AllByRecursion (λ f. is_period (Refused f) ≡ false) found → first_of found ≡ Some fault → is_period (Refused fault) ≡ false
 first_early [] fault a e = let z : ◌≡◌ {A = ℕ} 0 1 = cc in absurd (omega arith)
 first_early (f ∷ more) fault a e = let same : f ≡ fault = cc in subst (λ x. is_period (Refused x) ≡ false) same a.0
 

@@ -1,7 +1,7 @@
 -- Groups of six line symbols: the three pairs of a scrambled symbol, and the symbol back. Assumes nothing.
 use Rattle.std.proofs.Common.{◌≡◌, ℕ, ◌+◌, ◌*◌, ◌/◌, ◌%◌, ◌<◌, Bool, true, false, not, ◌&&◌, ◌||◌, T, eqb, List, [], ◌∷◌, length, get_or, ℤ, pos, negsuc, sym, refl, ap, ◌∙◌, arith, w8, SFits, to_z, of_z, eqb-true}
 use Rattle.std.proofs.lemmas.Int.{ints, to_z-of_z}
-use borrow.Author.Tests.{eqb_false}
+use borrow.Author.Tests.{eqb-false}
 use lib.Bits.{bit_xor, xor_assoc, xor_self, xor_zero_r, xor_lt}
 use lib.Signed.{le_z}
 use Rattle.blocks.specs.Bits.{bits, number, packed}
@@ -188,4 +188,4 @@ heard_test pair distinct mask six symbol v false m h heard = go (eqb symbol v) r
 
     go : (t : Bool) → eqb symbol v ≡ t → not (same six (line_group pair (bit_xor v mask))) ≡ not t
     go true e = ap not (same_of_equal _ _ (sym read ∙ ap (λ c. line_group pair (bit_xor c mask)) (eqb-true symbol v e)))
-    go false e = ap not (same_of_unequal _ _ (λ f. eqb_false symbol v e (scrambled_same pair distinct symbol v mask heard.small h m (read ∙ f))))
+    go false e = ap not (same_of_unequal _ _ (λ f. eqb-false symbol v e (scrambled_same pair distinct symbol v mask heard.small h m (read ∙ f))))

@@ -1,6 +1,6 @@
 -- Line frames of all periods: length, symbols, one word for each, at most one near, equal where ends agree. Assumes nothing.
 use Rattle.std.proofs.Common.{◌≡◌, ℕ, zero, suc, ◌+◌, ◌*◌, ◌/◌, ◌%◌, ◌<◌, ◌≤◌, Bool, true, false, not, ◌||◌, T, List, [], ◌∷◌, ◌++◌, length, get_or, ℤ, filter, sym, refl, ap, ◌∙◌, subst, add-zero, arith}
-use borrow.Author.Tests.{eqb_false, not_true}
+use borrow.Author.Tests.{eqb-false, not-true}
 use lib.Bits.{bit_xor}
 use Rattle.std.specs.List.{prefix_len}
 use Rattle.std.proofs.lemmas.List.{ext_get_or}
@@ -81,7 +81,7 @@ module _ (end : End) (distinct : Distinct end.pair) (small : (k : ℕ) → end.m
           → i < 450 → symbol_differs word other i ≡ true → not a || not b ≡ true
       one false b e f h d = refl
       one true false e f h d = refl
-      one true true {i} e f h d = absurd (eqb_false _ _ (not_true _ d) (symbols_same i h (sym (same_equal _ _ e) ∙ same_equal _ _ f)))
+      one true true {i} e f h d = absurd (eqb-false _ _ (not-true _ d) (symbols_same i h (sym (same_equal _ _ e) ∙ same_equal _ _ f)))
 
 -- a codeword is near its own line frame
 pub near_itself : (end : End) (period : ℕ) (word : List ℕ) → Codeword end.field word → Near end period (line_frame end period word) word

@@ -1,6 +1,6 @@
 -- One call of a run, from what the end's own call ensures. Assumes nothing.
 use Rattle.std.proofs.Common.{◌≡◌, ℕ, ◌+◌, ◌*◌, false, ◌⊎◌, List, [], ◌∷◌, ℤ, sym, refl, ap, ◌∙◌, subst, inl, inr, arith}
-use Rattle.std.specs.List.{AllByRecursion as All}
+use Rattle.std.specs.List.{AllByRecursion}
 use Rattle.codec.specs.Calls.{Call, send, sender_rest, receive, receiver_rest, faults, is_period, periods_of, lock_after, Performs, Answers}
 use Rattle.codec.specs.Ends.{End, Later}
 use Rattle.codec.specs.Locks.{new_lock}
@@ -15,7 +15,7 @@ no_later : (end : End) → Later 0 end end
 no_later end = record { arithmetic = refl; masks = λ k. ap end.mask (omega arith); code = refl }
 
 -- a call that is no receive leaves the lock
-still : (X : Type 0) (found : List EndFault) (asked left : Call) (outcome : Outcome) (lock : Lock) → All (λ f. is_period (Refused f) ≡ false) found → (X → outcome ≡ Done)
+still : (X : Type 0) (found : List EndFault) (asked left : Call) (outcome : Outcome) (lock : Lock) → AllByRecursion (λ f. is_period (Refused f) ≡ false) found → (X → outcome ≡ Done)
     → elim found as (λ f. Type 0) [ [] ↦ X | fault ∷ more ↦ (left ≡ asked) × (outcome ≡ Refused fault) ] → lock ≡ lock_after lock outcome
 still X [] asked left outcome lock a d h = sym (ap (lock_after lock) (d h))
 still X (fault ∷ more) asked left outcome lock a d h = sym (ap (lock_after lock) h.1 ∙ rw a.0)

@@ -1,4 +1,6 @@
 //! The line codec: frames, ends and exchanges, with the calls of the layers below.
+#![tactic(auto)]
+
 mod checks;
 mod end_refusals;
 mod ends;

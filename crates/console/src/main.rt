@@ -1,4 +1,6 @@
 //! Reads bench records from standard input, and prints a line of each.
+#![tactic(auto)]
+
 use bench::standard_bench;
 use lines::LineCode;
 use std::io::{Read, Write};

@@ -1,4 +1,6 @@
 //! Carries all 1,024 layouts of data and control through a block and back, and counts those that return.
+#![tactic(auto)]
+
 use codec::{read_block, write_block};
 use std::io;
 

@@ -15,7 +15,7 @@ turned_turned p = ap (λ a. (a, neg_ℤ (neg_ℤ p.1))) (neg_ℤ-neg_ℤ p.0) �
 
 -- a symbol's negation, as a program makes it
 abbrev pub program_negated : ℤ → ℤ
-program_negated z = to_z w8 (of_z w8 (pos 0 _ℤ to_z w8 (of_z w8 z)))
+program_negated z = to_z w8 (of_z w8 (pos 0 -ℤ to_z w8 (of_z w8 z)))
 
 negated : (z : ℤ) → T (is_line_symbol z) → program_negated z ≡ neg_ℤ z
 negated (pos n) t = let r = symbol_range (pos n) t in grind (arith, ints)

@@ -22,7 +22,7 @@ LineCodesAgree ours theirs = (w : ℕ) → w < 8 → ours w ≡ theirs w
 
 -- the nine pairs counted from (-1, -1), second symbol fastest, without (0, 0), which is number 4
 abbrev pub ordered_pair : ℕ → ℤ × ℤ
-ordered_pair w = let n = cond (nat_lt w 4) w (w + 1) in (pos (n / 3) _ℤ pos 1, pos (n % 3) _ℤ pos 1)
+ordered_pair w = let n = cond (nat_lt w 4) w (w + 1) in (pos (n / 3) -ℤ pos 1, pos (n % 3) -ℤ pos 1)
 
 abbrev pub ring_pairs : List (ℤ × ℤ)
 ring_pairs =

@@ -1,4 +1,6 @@
 //! Streams of masks and line codes.
+#![tactic(auto)]
+
 mod layers;
 mod line_code;
 #[cfg(test)]

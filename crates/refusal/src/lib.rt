@@ -1,4 +1,6 @@
 //! What every refusal says: its number, the layer that refuses, and the place.
+#![tactic(auto)]
+
 ghost use Rattle.std.specs.Prelude.{◌≡◌};
 ghost use Rattle.refusal.specs.Refusals.{refusal};
 

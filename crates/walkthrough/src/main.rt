@@ -1,15 +1,16 @@
 //! Shows the codec at work, layer by layer, and then carries frames from characters to the line and back.
+#![tactic(auto)]
 
 mod agreeing;
 mod arithmetics;
-mod blocks;
 mod frames;
+mod packets;
 mod pairs;
 mod words;
 
 fn main(rt: HostRuntime) -> anyhow::Result<()> {
-    blocks::packet_tail(&rt)?;
-    blocks::invalid_blocks(&rt)?;
+    packets::packet_tail(&rt)?;
+    packets::invalid_blocks(&rt)?;
     arithmetics::products(&rt)?;
     arithmetics::examples(&rt)?;
     words::damaged_words(&rt)?;

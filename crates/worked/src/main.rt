@@ -1,4 +1,6 @@
 //! Worked values that are no theorem: the start of a line, a silent line received, and what the bench prints.
+#![tactic(auto)]
+
 use anyhow::anyhow;
 use arithmetic::Tabled;
 use bench::standard_bench;

@@ -11,19 +11,19 @@ pub loop-k-preserved : goal.loop-k-preserved
 loop-k-preserved c =
     let k = c.loop-k.k in
     let xs = c.loop-k.words in
-    let ys = c.run-one.new.word in
+    let ys = c.run_one.new.word in
     let old = c.args.words.now in
     let told = c.loop-k.answers in
-    let r = c.run-one.result in
+    let r = c.run_one.result in
     let low : 450 * k ≤ length xs = omega arith in
     let room : k < length told = omega arith in
     let part : length (take (450 * k + 450 - 450 * k) (drop (450 * k) xs)) ≡ 450 * k + 450 - 450 * k = simp (length-take, length-drop) (omega arith) in
-    let long : length ys ≡ 450 * k + 450 - 450 * k = c.run-one.auto.word ∙ part in
+    let long : length ys ≡ 450 * k + 450 - 450 * k = c.run_one.auto.word ∙ part in
     let P : List ℕ → List ℕ → ℕ → Type 0 = Answered polynomials c.args.completing in (
       λ j h l. elim (ℕ_discrete j k) [
         | yes e ↦ subst (λ i. P (word_at old i) (word_at (put_mid (450 * k) (450 * k + 450 - 450 * k) xs ys) i) (get_or (set told k r) i 0)) (sym e)
             (subst (P (word_at old k) _) (sym (get_or-set_same told k r 0 room))
-            (subst (λ w. P (word_at old k) w r) (sym (written xs ys k low long)) (subst (λ w. P w ys r) (c.loop-k.invariant.1 k (omega arith)) c.run-one.ensures)))
+            (subst (λ w. P (word_at old k) w r) (sym (written xs ys k low long)) (subst (λ w. P w ys r) (c.loop-k.invariant.1 k (omega arith)) c.run_one.ensures)))
         | no n ↦
             subst (P (word_at old j) _) (sym (get_or-set_other told k j r 0 n))
             (subst (λ w. P (word_at old j) w (get_or told j 0)) (sym (unchanged_before xs ys k low long j (omega arith))) (c.loop-k.invariant.0 j (omega arith) l))

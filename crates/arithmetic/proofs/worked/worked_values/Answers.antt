@@ -4,10 +4,10 @@ use Rattle.arithmetic.proofs.worked.worked_values.Goals as goal
 
 pub returns : goal.returns
 returns c = record {
-  answers-are-those = (
+  answers_are_those = (
     c.power.ensures.value ∙ polynomials_worked.ninth_power,
     c.power-2.ensures.value ∙ polynomials_worked.fourteenth_power,
     c.inverse.ensures.value ∙ polynomials_worked.inverse_of_two,
   );
-  worked-values-hold = polynomials_worked;
+  worked_values_hold = polynomials_worked;
 }

@@ -6,7 +6,7 @@ pub returns : goal.returns
 returns c =
     let l : length c.args.payload.now ≡ 3 = search rules in
     record {
-      hit-or-refused = record {
+      hit_or_refused = record {
         written = get_or c.args.payload.now 2 0;
         octets = three c.args.payload.now l ∙ ap (λ x. x ++ get_or c.args.payload.now 2 0 ∷ []) (sym c.two-place.ensures);
         inside = c.if-place-ge2700.false;

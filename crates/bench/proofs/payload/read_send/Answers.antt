@@ -8,6 +8,6 @@ loop-k-preserved c =
 
 pub returns : goal.returns
 returns c = record {
-  symbol-then-characters-or-refused = all_numbers c.args.payload.now c.loop-k.characters c.loop-k.k c.two-symbol.result (omega arith) (omega arith) c.loop-k.invariant;
-  refusal-writes-nothing = tt;
+  symbol_then_characters_or_refused = all_numbers c.args.payload.now c.loop-k.characters c.loop-k.k c.two-symbol.result (omega arith) (omega arith) c.loop-k.invariant;
+  refusal_writes_nothing = tt;
 }

@@ -38,9 +38,9 @@ all_standard sender receiver lock s r l = ap (λ e. over_zeros e receiver lock) 
 
 pub returns : goal.returns
 returns c =
-    let p = started c.new.result c.unwrap-stream.result c.unwrap-stream.ensures c.new.ensures.starts-at-the-seed in
+    let p = started c.new.result c.unwrap-stream.result c.unwrap-stream.ensures c.new.ensures.starts_at_the_seed in
     let m = is_master c.unwrap-stream.result p.0 p.1 in
     record {
-      both-ends-alike = c.new-4.ensures.stands_new ∙ all_standard _ _ _ (c.new-2.ensures.stands_new ∙ m) (c.new-3.ensures.stands_new ∙ m) c.new-3.ensures.has_lock;
-      counts-from-0 = c.new-4.ensures.counts-from-0;
+      both_ends_alike = c.new-4.ensures.stands_new ∙ all_standard _ _ _ (c.new-2.ensures.stands_new ∙ m) (c.new-3.ensures.stands_new ∙ m) c.new-3.ensures.has_lock;
+      counts_from_0 = c.new-4.ensures.counts_from_0;
     }

@@ -8,18 +8,18 @@ pub returns-then-word-ne-SYMBOLS : goal.returns-then-word-ne-SYMBOLS
 returns-then-word-ne-SYMBOLS c = not_full c.if-word-ne-SYMBOLS.true
 
 pub returns-then-place-lt-SYMBOLS : goal.returns-then-place-lt-SYMBOLS
-returns-then-place-lt-SYMBOLS c = too_large c.first-too-large-place.result (record {
+returns-then-place-lt-SYMBOLS c = too_large c.first_too_large-place.result (record {
   full = c.if-word-ne-SYMBOLS.false;
   within = c.if-place-lt-SYMBOLS.true;
-  above = c.first-too-large-place.ensures.found (omega arith);
-  before = c.first-too-large-place.ensures.before;
+  above = c.first_too_large-place.ensures.found (omega arith);
+  before = c.first_too_large-place.ensures.before;
 })
 
 pub returns : goal.returns
 returns c = record {
   full = c.if-word-ne-SYMBOLS.false;
   small = λ i. elim (dec_lt i 450) [
-    | yes h ↦ c.first-too-large-place.ensures.before i (omega arith)
+    | yes h ↦ c.first_too_large-place.ensures.before i (omega arith)
     | no h ↦ (let e : get_or c.args.word.now i 0 ≡ 0 = get_or_past c.args.word.now i 0 (omega arith) in omega arith)
   ];
 }

@@ -6,4 +6,4 @@ front : (n : ℕ) (xs ys : List ℕ) → length xs ≡ n → take n (xs ++ ys) �
 front n xs ys e = let h : n ≤ length xs = omega arith in let k : length xs ≤ n = omega arith in take-append-le n xs ys h ∙ take_all n xs k
 
 pub returns : goal.returns
-returns g c = record { same = refl; sum = front _ _ _ (omega (arith, c.add-multiple.auto.q, length-take c.args.p.degree c.args.p.low)) ∙ c.add-multiple.ensures }
+returns g c = record { same = refl; sum = front _ _ _ (omega (arith, c.add_multiple.auto.q, length-take c.args.p.degree c.args.p.low)) ∙ c.add_multiple.ensures }

@@ -29,14 +29,14 @@ loop-i-preserved g c =
     let head = c.sum-next.ensures.value ∙ ap (λ z. f.plus z (get_or message (i + 1) 0)) (c.sum-head.ensures.value ∙ sym (advanced_at laws r first 0 long some)) in
     let two : Divided f 44 (take (i + 1 + 1) message) (advanced f (advanced f r first) second) =
     divided_more laws 44 rows message (advanced f r first) (i + 1) c.sum-next.result c.requires in_two (length_advanced laws r first some long ∙ lr) (omega arith) c.sum-next.ensures.below head one in
-    let moved : c.advance-twice.new.register ≡ advanced f (advanced f r first) second = c.advance-twice.ensures in
+    let moved : c.advance_twice.new.register ≡ advanced f (advanced f r first) second = c.advance_twice.ensures in
     let small : List ℕ → Type 0 = λ q. (k : ℕ) → get_or q k 0 < 512 in
     let next : i + 2 ≡ i + 1 + 1 = omega arith in
     let Good : List ℕ → ℕ → Type 0 = λ q n. Divided f 44 (take n message) q in (
-      c.advance-twice.array_long,
+      c.advance_twice.array_long,
       omega arith,
       subst small (sym moved) (added_small laws (drop 1 (advanced f r first) ++ (0 ∷ [])) second),
-      subst (Good c.advance-twice.new.register) (sym next) (subst (λ q. Good q (i + 1 + 1)) (sym moved) two),
+      subst (Good c.advance_twice.new.register) (sym next) (subst (λ q. Good q (i + 1 + 1)) (sym moved) two),
     )
 
 pub returns-then-i-message : goal.returns-then-i-message

@@ -8,6 +8,6 @@ returns g c =
     let w = c.args.word.now in
     let p = c.remainder-left.result in
     record {
-      sound = λ t. zero_codeword laws w p c.requires.word (omega arith) c.remainder-left.ensures.small c.remainder-left.ensures.right (c.is-zero.ensures.zero t);
-      complete = λ h. c.is-zero.ensures.only (codeword_zero laws w p c.requires.word (omega arith) c.remainder-left.ensures.small c.remainder-left.ensures.right h);
+      sound = λ t. zero_codeword laws w p c.requires.word (omega arith) c.remainder-left.ensures.small c.remainder-left.ensures.right (c.is_zero.ensures.zero t);
+      complete = λ h. c.is_zero.ensures.only (codeword_zero laws w p c.requires.word (omega arith) c.remainder-left.ensures.small c.remainder-left.ensures.right h);
     }

@@ -6,8 +6,8 @@ use Rattle.code.proofs.Values.{added_small}
 use Rattle.code.proofs.Registers.{remainder_value}
 use Rattle.code.proofs.register.remainder.Goals as goal
 
-pub slice-bounds-divide-end : goal.slice-bounds-divide-end
-slice-bounds-divide-end g c = let room : 406 ≤ length c.args.word.now = omega arith in sym (length-take-le 406 c.args.word.now room)
+pub slice_bounds-divide-end : goal.slice_bounds-divide-end
+slice_bounds-divide-end g c = let room : 406 ≤ length c.args.word.now = omega arith in sym (length-take-le 406 c.args.word.now room)
 
 pub returns : goal.returns
 returns g c =
@@ -20,9 +20,9 @@ returns g c =
     let rest : tail ≡ drop 406 w = take_rest w 406 in
     let long : length c.divide-register.result ≡ length (drop 406 w) = simp length-drop (omega arith) in
     record {
-      small = subst small (sym c.add-row.ensures) (added_small laws c.divide-register.result tail);
+      small = subst small (sym c.add_row.ensures) (added_small laws c.divide-register.result tail);
       right = λ j h.
-          ap (value f (power f f.alpha j)) c.add-row.ensures
+          ap (value f (power f f.alpha j)) c.add_row.ensures
           ∙ ap (λ t. value f (power f f.alpha j) (added f c.divide-register.result t)) rest
           ∙ remainder_value laws 44 406 w c.divide-register.result long c.divide-register.ensures.worth j h;
     }

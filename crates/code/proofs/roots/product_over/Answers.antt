@@ -12,8 +12,8 @@ loop-m-preserved g c =
     let f = g.A.Arithmetic.field c.args.a.now in
     let m = c.loop-m.m in
     let point = c.requires.powers (get_or c.args.places.now.at m 0) (omega (arith, c.requires.small m (omega arith))) in
-    let step = c.times-root.ensures ∙ ap (λ y. times_linear f y 0 (take m c.loop-m.low)) point in
-    (omega arith, vanishes_more (g.met.A.Arithmetic.lawful c.args.a.now) (place_point f c.args.places.now.at) c.loop-m.low c.times-root.new.p m step c.loop-m.invariant.1)
+    let step = c.times_root.ensures ∙ ap (λ y. times_linear f y 0 (take m c.loop-m.low)) point in
+    (omega arith, vanishes_more (g.met.A.Arithmetic.lawful c.args.a.now) (place_point f c.args.places.now.at) c.loop-m.low c.times_root.new.p m step c.loop-m.invariant.1)
 
 pub returns : goal.returns
 returns g c =

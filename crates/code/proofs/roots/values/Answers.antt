@@ -6,8 +6,8 @@ use Rattle.code.specs.Locating.{poly, whole, Terms}
 use Rattle.code.proofs.Places.{total_value, next_term}
 use Rattle.code.proofs.roots.values.Goals as goal
 
-pub step-terms-requires : goal.step-terms-requires
-step-terms-requires g c =
+pub step_terms-requires : goal.step_terms-requires
+step_terms-requires g c =
     let p = c.args.p.now in
     let long : length (poly p) ≡ p.degree = length-take-le p.degree p.low (omega arith) in
     record { few = omega arith; fits = λ k h. (c.loop-i.invariant.2 k (omega (arith, length-append (poly p) (1 ∷ [])))).0 }
@@ -20,7 +20,7 @@ loop-i-preserved g c =
     let i = c.loop-i.i in
     let x = power f f.alpha i in
     let terms = c.loop-i.terms in
-    let new = c.step-terms.new.terms in
+    let new = c.step_terms.new.terms in
     let n = p.degree + 1 in
     let long : length (poly p) ≡ p.degree = length-take-le p.degree p.low (omega arith) in
     let size : length (whole p) ≡ n = omega (arith, length-append (poly p) (1 ∷ [])) in
@@ -28,12 +28,12 @@ loop-i-preserved g c =
     let now' : Terms f (whole p) x (take n terms) = λ k h.
     let e : get_or (take n terms) k 0 ≡ get_or terms k 0 = get_or-take n terms k 0 (omega arith) in
     (omega (arith, (c.loop-i.invariant.2 k h).0), e ∙ (c.loop-i.invariant.2 k h).1) in
-    let here : c.total-of.result ≡ eval_monic f (poly p) x = c.total-of.ensures ∙ total_value laws (poly p) (take n terms) x lt now' in
+    let here : c.total_of.result ≡ eval_monic f (poly p) x = c.total_of.ensures ∙ total_value laws (poly p) (take n terms) x lt now' in
     let room : i < length c.loop-i.values = omega arith in
     let next : Terms f (whole p) (power f f.alpha (suc i)) new = λ k h.
     let b : k < n = omega arith in
     let small = (c.loop-i.invariant.2 k h).0 in
-    let e : get_or new k 0 ≡ f.times (power f f.alpha k) (get_or terms k 0) = c.step-terms.ensures k b ∙ (c.requires.steps k (omega arith)).1 (get_or terms k 0) small in
+    let e : get_or new k 0 ≡ f.times (power f f.alpha k) (get_or terms k 0) = c.step_terms.ensures k b ∙ (c.requires.steps k (omega arith)).1 (get_or terms k 0) small in
     let below = laws.times_below (power f f.alpha k) (get_or terms k 0) in
     (omega arith, e ∙ ap (f.times (power f f.alpha k)) (c.loop-i.invariant.2 k h).1 ∙ next_term laws (get_or (whole p) k 0) k i) in
     let T : ℕ → Type 0 = λ m. Terms f (whole p) (power f f.alpha m) new in (

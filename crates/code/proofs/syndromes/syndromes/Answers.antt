@@ -17,11 +17,11 @@ loop-c-preserved g c =
     let f = g.A.Arithmetic.field a in
     let p = c.args.p.now in
     let i = c.loop-c.c-index in
-    let long : length c.horner-step.new.totals ≡ 44 = omega arith in (
+    let long : length c.horner_step.new.totals ≡ 44 = omega arith in (
       long,
-      c.horner-step.ensures.small,
+      c.horner_step.ensures.small,
       λ j h. let x = power f f.alpha j in
-          c.horner-step.ensures.right j h
+          c.horner_step.ensures.right j h
           ∙ ap (λ z. f.plus (get_or p i 0) (f.times x z)) (c.loop-c.invariant.2 j h)
           ∙ value_step (g.met.A.Arithmetic.lawful a) x (take i p) (get_or p i 0)
           ∙ ap (value f x) (sym (take_more p i 0 c.loop-c-test.true)),

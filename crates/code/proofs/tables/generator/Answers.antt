@@ -12,8 +12,8 @@ loop-j-preserved g c =
     let f = g.A.Arithmetic.field c.args.a.now in
     let j = c.loop-j.j in
     let point = c.requires j (omega arith) in
-    let step = c.times-root.ensures ∙ ap (λ y. times_linear f y 0 (take j c.loop-j.g)) point in
-    (omega arith, vanishes_more (g.met.A.Arithmetic.lawful c.args.a.now) (power f f.alpha) c.loop-j.g c.times-root.new.p j step c.loop-j.invariant.1)
+    let step = c.times_root.ensures ∙ ap (λ y. times_linear f y 0 (take j c.loop-j.g)) point in
+    (omega arith, vanishes_more (g.met.A.Arithmetic.lawful c.args.a.now) (power f f.alpha) c.loop-j.g c.times_root.new.p j step c.loop-j.invariant.1)
 
 pub returns : goal.returns
 returns g c = λ j h.

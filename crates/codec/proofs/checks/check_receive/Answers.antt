@@ -23,42 +23,42 @@ module _ (line : List ℤ) (characters places : List ℕ) where
   abbrev NoneFound : Lock → Type 0
   NoneFound lock = faults lock (receive line characters places) ≡ []
 
-pub returns-in-err-check-lock : goal.returns-in-err-check-lock
-returns-in-err-check-lock c =
-    let p = err_from_is_err_and c.from-residual.result c.from-residual.ensures.1 in
-    let h = c.in-err-check-lock.ensures in
+pub returns-in_err-check_lock : goal.returns-in_err-check_lock
+returns-in_err-check_lock c =
+    let p = err_from_is_err_and c.from_residual.result c.from_residual.ensures.1 in
+    let h = c.in_err-check_lock.ensures in
     rw p.1 (subst (First c.args.line.now c.args.characters.now c.args.places.now EndFault.NoLock) (sym h.0) (faulted.receive_no_lock c.args.line.now c.args.characters.now c.args.places.now) ∙ ap Some (sym h.1 ∙ sym p.2))
 
-pub returns-in-err-check-length : goal.returns-in-err-check-length
-returns-in-err-check-length c =
-    let p = err_from_is_err_and c.from-residual-in-err-check-length.result c.from-residual-in-err-check-length.ensures.1 in
-    let h = c.in-err-check-length.ensures in
-    rw p.1 (locked (First c.args.line.now c.args.characters.now c.args.places.now (EndFault.Length 0)) c.args.lock c.in-ok-check-lock.ensures
+pub returns-in_err-check_length : goal.returns-in_err-check_length
+returns-in_err-check_length c =
+    let p = err_from_is_err_and c.from_residual-in_err-check_length.result c.from_residual-in_err-check_length.ensures.1 in
+    let h = c.in_err-check_length.ensures in
+    rw p.1 (locked (First c.args.line.now c.args.characters.now c.args.places.now (EndFault.Length 0)) c.args.lock c.in_ok-check_lock.ensures
     (λ bad. faulted.receive_line_length c.args.line.now c.args.characters.now c.args.places.now bad h.0) ∙ ap Some (sym h.1 ∙ sym p.2))
 
-pub returns-in-err-check-length-2 : goal.returns-in-err-check-length-2
-returns-in-err-check-length-2 c =
-    let p = err_from_is_err_and c.from-residual-in-err-check-length-2.result c.from-residual-in-err-check-length-2.ensures.1 in
-    let h = c.in-err-check-length-2.ensures in
-    rw p.1 (locked (First c.args.line.now c.args.characters.now c.args.places.now (EndFault.Length 1)) c.args.lock c.in-ok-check-lock.ensures
-    (λ bad. faulted.receive_characters_length c.args.line.now c.args.characters.now c.args.places.now bad c.in-ok-check-length.ensures h.0) ∙ ap Some (sym h.1 ∙ sym p.2))
+pub returns-in_err-check_length-2 : goal.returns-in_err-check_length-2
+returns-in_err-check_length-2 c =
+    let p = err_from_is_err_and c.from_residual-in_err-check_length-2.result c.from_residual-in_err-check_length-2.ensures.1 in
+    let h = c.in_err-check_length-2.ensures in
+    rw p.1 (locked (First c.args.line.now c.args.characters.now c.args.places.now (EndFault.Length 1)) c.args.lock c.in_ok-check_lock.ensures
+    (λ bad. faulted.receive_characters_length c.args.line.now c.args.characters.now c.args.places.now bad c.in_ok-check_length.ensures h.0) ∙ ap Some (sym h.1 ∙ sym p.2))
 
-pub returns-in-err-check-length-3 : goal.returns-in-err-check-length-3
-returns-in-err-check-length-3 c =
-    let p = err_from_is_err_and c.from-residual-in-err-check-length-3.result c.from-residual-in-err-check-length-3.ensures.1 in
-    let h = c.in-err-check-length-3.ensures in
-    rw p.1 (locked (First c.args.line.now c.args.characters.now c.args.places.now (EndFault.Length 2)) c.args.lock c.in-ok-check-lock.ensures
-    (λ bad. faulted.receive_places_length c.args.line.now c.args.characters.now c.args.places.now bad c.in-ok-check-length.ensures c.in-ok-check-length-2.ensures h.0) ∙ ap Some (sym h.1 ∙ sym p.2))
+pub returns-in_err-check_length-3 : goal.returns-in_err-check_length-3
+returns-in_err-check_length-3 c =
+    let p = err_from_is_err_and c.from_residual-in_err-check_length-3.result c.from_residual-in_err-check_length-3.ensures.1 in
+    let h = c.in_err-check_length-3.ensures in
+    rw p.1 (locked (First c.args.line.now c.args.characters.now c.args.places.now (EndFault.Length 2)) c.args.lock c.in_ok-check_lock.ensures
+    (λ bad. faulted.receive_places_length c.args.line.now c.args.characters.now c.args.places.now bad c.in_ok-check_length.ensures c.in_ok-check_length-2.ensures h.0) ∙ ap Some (sym h.1 ∙ sym p.2))
 
-pub returns-in-err-check-line : goal.returns-in-err-check-line
-returns-in-err-check-line c =
-    let p = err_from_is_err_and c.from-residual-in-err-check-line.result c.from-residual-in-err-check-line.ensures.1 in
-    let h = c.in-err-check-line.ensures in
+pub returns-in_err-check_line : goal.returns-in_err-check_line
+returns-in_err-check_line c =
+    let p = err_from_is_err_and c.from_residual-in_err-check_line.result c.from_residual-in_err-check_line.ensures.1 in
+    let h = c.in_err-check_line.ensures in
     let place = prefix_len is_line_symbol c.args.line.now in
-    rw p.1 (locked (First c.args.line.now c.args.characters.now c.args.places.now (EndFault.Line (LineFault.NoLineSymbol place))) c.args.lock c.in-ok-check-lock.ensures
-    (λ bad. faulted.receive_no_line_symbol c.args.line.now c.args.characters.now c.args.places.now bad place c.in-ok-check-length.ensures c.in-ok-check-length-2.ensures c.in-ok-check-length-3.ensures refl h.0) ∙ ap Some (ap wrapped_line (sym h.1) ∙ sym p.2))
+    rw p.1 (locked (First c.args.line.now c.args.characters.now c.args.places.now (EndFault.Line (LineFault.NoLineSymbol place))) c.args.lock c.in_ok-check_lock.ensures
+    (λ bad. faulted.receive_no_line_symbol c.args.line.now c.args.characters.now c.args.places.now bad place c.in_ok-check_length.ensures c.in_ok-check_length-2.ensures c.in_ok-check_length-3.ensures refl h.0) ∙ ap Some (ap wrapped_line (sym h.1) ∙ sym p.2))
 
 pub returns : goal.returns
 returns c =
-    locked (NoneFound c.args.line.now c.args.characters.now c.args.places.now) c.args.lock c.in-ok-check-lock.ensures
-    (λ bad. faulted.receive_no_fault c.args.line.now c.args.characters.now c.args.places.now bad c.in-ok-check-length.ensures c.in-ok-check-length-2.ensures c.in-ok-check-length-3.ensures c.in-ok-check-line.ensures)
+    locked (NoneFound c.args.line.now c.args.characters.now c.args.places.now) c.args.lock c.in_ok-check_lock.ensures
+    (λ bad. faulted.receive_no_fault c.args.line.now c.args.characters.now c.args.places.now bad c.in_ok-check_length.ensures c.in_ok-check_length-2.ensures c.in_ok-check_length-3.ensures c.in_ok-check_line.ensures)

@@ -11,4 +11,4 @@ said line (Ok x) h = rest_no_fault new_lock line h
 said line (Err e) h = rest_line_length new_lock line h.0 ∙ cc h.1
 
 pub returns : goal.returns
-returns c = said c.args.line.now c.check-length.result c.check-length.ensures
+returns c = said c.args.line.now c.check_length.result c.check_length.ensures

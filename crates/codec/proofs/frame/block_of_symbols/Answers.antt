@@ -11,7 +11,7 @@ pub loop-i-preserved : goal.loop-i-preserved
 loop-i-preserved c =
     let block = block_from (unpacked 9 c.args.symbols.now) in
     let e : 1 + c.loop-i.i ≡ c.loop-i.i + 1 = omega arith in
-    (length-set _ _ _ ∙ c.loop-i.invariant.0, wrote_more c.loop-i.block block (c.loop-i.i + 1) c.octet-at.result (omega arith) (omega (arith, eleven_octets (unpacked 9 c.args.symbols.now))) c.loop-i.invariant.1 (c.octet-at.ensures ∙ ap (λ k. get_or block k 0) e))
+    (length-set _ _ _ ∙ c.loop-i.invariant.0, wrote_more c.loop-i.block block (c.loop-i.i + 1) c.octet_at.result (omega arith) (omega (arith, eleven_octets (unpacked 9 c.args.symbols.now))) c.loop-i.invariant.1 (c.octet_at.ensures ∙ ap (λ k. get_or block k 0) e))
 
 pub returns : goal.returns
 returns c = wrote_all _ _ 11 (c.loop-i.i + 1) c.loop-i.invariant.0 (eleven_octets (unpacked 9 c.args.symbols.now)) (omega arith) c.loop-i.invariant.1

@@ -4,5 +4,5 @@ use Rattle.codec.proofs.frame.codeword_of.Goals as goal
 
 pub returns : goal.returns
 returns g c =
-    let done = completed c.complete.result (g.A.Arithmetic.field c.args.code.now.arithmetic) c.frame-symbols-word.result c.complete.new.word c.frame-symbols-word.ensures.word c.complete.ensures.completes in
-    record { carries = done.message ∙ c.frame-symbols-word.ensures.message; codeword = done.codeword }
+    let done = completed c.complete.result (g.A.Arithmetic.field c.args.code.now.arithmetic) c.frame_symbols-word.result c.complete.new.word c.frame_symbols-word.ensures.word c.complete.ensures.completes in
+    record { carries = done.message ∙ c.frame_symbols-word.ensures.message; codeword = done.codeword }

@@ -10,16 +10,16 @@ use Rattle.codec.proofs.frame.frame_symbols.Goals as goal
 pub loop-k-init : goal.loop-k-init
 loop-k-init c = writing.written_none c.args.characters.now
 
-pub slice-bounds-word-end : goal.slice-bounds-word-end
-slice-bounds-word-end c =
+pub slice_bounds-word-end : goal.slice_bounds-word-end
+slice_bounds-word-end c =
     let long : length c.loop-k.word ≡ 450 = writing.written_length c.args.characters.now c.loop-k.k c.loop-k.word (omega arith) c.loop-k.invariant in
     search rules
 
-pub write-symbols-requires : goal.write-symbols-requires
-write-symbols-requires c =
+pub write_symbols-requires : goal.write_symbols-requires
+write_symbols-requires c =
     let cs = c.args.characters.now in
     let k = c.loop-k.k in
-    let block : c.write-block.new.block ≡ block_of (ten_at cs k) = writing.written_ten c.write-block.result cs (replicate 11 0) c.write-block.new.block k (10 * k + 10 - 10 * k) (omega arith) c.loop-k-test.true c.requires.full c.requires.valid refl c.write-block.ensures.block-they-make-or-refused in
+    let block : c.write_block.new.block ≡ block_of (ten_at cs k) = writing.written_ten c.write_block.result cs (replicate 11 0) c.write_block.new.block k (10 * k + 10 - 10 * k) (omega arith) c.loop-k-test.true c.requires.full c.requires.valid refl c.write_block.ensures.block_they_make_or_refused in
     let long : length c.loop-k.word ≡ 450 = writing.written_length cs k c.loop-k.word (omega arith) c.loop-k.invariant in
     let nine : 9 * k + 9 - 9 * k ≡ 9 = omega arith in
     record {
@@ -32,8 +32,8 @@ pub loop-k-preserved : goal.loop-k-preserved
 loop-k-preserved c =
     let cs = c.args.characters.now in
     let k = c.loop-k.k in
-    let block : c.write-block.new.block ≡ block_of (ten_at cs k) = writing.written_ten c.write-block.result cs (replicate 11 0) c.write-block.new.block k (10 * k + 10 - 10 * k) (omega arith) c.loop-k-test.true c.requires.full c.requires.valid refl c.write-block.ensures.block-they-make-or-refused in
-    writing.written_more cs k (9 * k + 9 - 9 * k) c.loop-k.word c.write-symbols.new.symbols c.loop-k-test.true (omega arith) c.loop-k.invariant (c.write-symbols.ensures ∙ ap (λ b. packed 9 9 (block_bits b)) block)
+    let block : c.write_block.new.block ≡ block_of (ten_at cs k) = writing.written_ten c.write_block.result cs (replicate 11 0) c.write_block.new.block k (10 * k + 10 - 10 * k) (omega arith) c.loop-k-test.true c.requires.full c.requires.valid refl c.write_block.ensures.block_they_make_or_refused in
+    writing.written_more cs k (9 * k + 9 - 9 * k) c.loop-k.word c.write_symbols.new.symbols c.loop-k-test.true (omega arith) c.loop-k.invariant (c.write_symbols.ensures ∙ ap (λ b. packed 9 9 (block_bits b)) block)
 
 pub returns : goal.returns
 returns c =

@@ -4,22 +4,22 @@ use Rattle.codec.proofs.frame.octet_at.Goals as goal
 use Rattle.codec.proofs.frame.octet_at.Goals.{then-i-lt9, else-i-lt9}
 
 pub returns-then-i-eq0 : goal.returns-then-i-eq0
-returns-then-i-eq0 c = sym (end_octet c.args.symbols.now c.args.i 0 c.requires.nine c.requires.small c.requires.one-of-ten (omega arith) (omega arith))
+returns-then-i-eq0 c = sym (end_octet c.args.symbols.now c.args.i 0 c.requires.nine c.requires.small c.requires.one_of_ten (omega arith) (omega arith))
 
-pub overflow-add-result : goal.overflow-add-result
-overflow-add-result c =
+pub overflow_add-result : goal.overflow_add-result
+overflow_add-result c =
     let high : High c.args.symbols.now c.args.i c.if-i-lt9.high =
     elim c.if-i-lt9.branch [ then-i-lt9 w ↦ high_next c.args.symbols.now c.args.i c.if-i-lt9.high (omega arith) w.if-i-lt9.true w.high-is | else-i-lt9 w ↦ high_none c.args.symbols.now c.args.i c.if-i-lt9.high w.if-i-lt9.false w.high-is ] in
-    omega (arith, octet_small c.args.symbols.now c.args.i c.if-i-lt9.high c.requires.small (omega arith) c.requires.one-of-ten high)
+    omega (arith, octet_small c.args.symbols.now c.args.i c.if-i-lt9.high c.requires.small (omega arith) c.requires.one_of_ten high)
 
-pub overflow-cast-result-2 : goal.overflow-cast-result-2
-overflow-cast-result-2 c =
+pub overflow_cast-result-2 : goal.overflow_cast-result-2
+overflow_cast-result-2 c =
     let high : High c.args.symbols.now c.args.i c.if-i-lt9.high =
     elim c.if-i-lt9.branch [ then-i-lt9 w ↦ high_next c.args.symbols.now c.args.i c.if-i-lt9.high (omega arith) w.if-i-lt9.true w.high-is | else-i-lt9 w ↦ high_none c.args.symbols.now c.args.i c.if-i-lt9.high w.if-i-lt9.false w.high-is ] in
-    omega (arith, octet_small c.args.symbols.now c.args.i c.if-i-lt9.high c.requires.small (omega arith) c.requires.one-of-ten high)
+    omega (arith, octet_small c.args.symbols.now c.args.i c.if-i-lt9.high c.requires.small (omega arith) c.requires.one_of_ten high)
 
 pub returns : goal.returns
 returns c =
     let high : High c.args.symbols.now c.args.i c.if-i-lt9.high =
     elim c.if-i-lt9.branch [ then-i-lt9 w ↦ high_next c.args.symbols.now c.args.i c.if-i-lt9.high (omega arith) w.if-i-lt9.true w.high-is | else-i-lt9 w ↦ high_none c.args.symbols.now c.args.i c.if-i-lt9.high w.if-i-lt9.false w.high-is ] in
-    later_octet c.args.symbols.now c.args.i c.if-i-lt9.high c.requires.nine c.requires.small (omega arith) c.requires.one-of-ten high
+    later_octet c.args.symbols.now c.args.i c.if-i-lt9.high c.requires.nine c.requires.small (omega arith) c.requires.one_of_ten high

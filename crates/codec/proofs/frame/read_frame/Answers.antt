@@ -2,10 +2,10 @@ use Rattle.std.proofs.Common.{◌≡◌, ◌+◌, ◌-◌, ◌*◌, length, take
 use Rattle.std.proofs.lemmas.List.{length-take-le, length-drop}
 use Rattle.codec.proofs.FrameReading as reading
 use Rattle.codec.proofs.frame.read_frame.Goals as goal
-use Rattle.codec.proofs.frame.read_frame.Goals.{in-Err+then-is-none, in-Err+else-is-none, in-default}
+use Rattle.codec.proofs.frame.read_frame.Goals.{in-Err+then-is_none, in-Err+else-is_none, in_default}
 
-pub read-ten-requires : goal.read-ten-requires
-read-ten-requires c =
+pub read_ten-requires : goal.read_ten-requires
+read_ten-requires c =
     let k = c.loop-k.k in
     let word = c.args.word.now in
     let characters = c.loop-k.characters in
@@ -14,18 +14,18 @@ read-ten-requires c =
     record {
       nine = ap (λ n. length (take n (drop (9 * k) word))) nine ∙ length-take-le 9 (drop (9 * k) word) (omega (arith, length-drop (9 * k) word, c.requires.word.full));
       small = reading.part_small word (9 * k) (9 * k + 9 - 9 * k) c.requires.word.small;
-      part-of-ten = ap (λ n. length (take n (drop (10 * k) characters))) ten ∙ length-take-le 10 (drop (10 * k) characters) (omega (arith, length-drop (10 * k) characters, c.loop-k.invariant.full));
+      part_of_ten = ap (λ n. length (take n (drop (10 * k) characters))) ten ∙ length-take-le 10 (drop (10 * k) characters) (omega (arith, length-drop (10 * k) characters, c.loop-k.invariant.full));
     }
 
 pub loop-k-preserved : goal.loop-k-preserved
 loop-k-preserved c =
     let k = c.loop-k.k in
-    elim c.match-read-ten.branch [
-      | in-Err+then-is-none w ↦ reading.read_invalid c.args.word.now c.loop-k.characters c.read-ten.new.ten k (9 * k + 9 - 9 * k) (10 * k + 10 - 10 * k) c.loop-k.invalid c.match-read-ten.invalid c.loop-k.fault c.match-read-ten.fault w.in-Err.found c.loop-k-test.true (omega arith) (omega arith) c.loop-k.invariant w.in-Err.ensures w.invalid-is
-          (reading.first_fault c.loop-k.fault c.match-read-ten.fault w.in-Err.found w.if-is-none.ensures w.fault-is)
-      | in-Err+else-is-none w ↦ reading.read_invalid c.args.word.now c.loop-k.characters c.read-ten.new.ten k (9 * k + 9 - 9 * k) (10 * k + 10 - 10 * k) c.loop-k.invalid c.match-read-ten.invalid c.loop-k.fault c.match-read-ten.fault w.in-Err.found c.loop-k-test.true (omega arith) (omega arith) c.loop-k.invariant w.in-Err.ensures w.invalid-is
-          (reading.later_fault c.loop-k.fault c.match-read-ten.fault w.in-Err.found w.if-is-none.ensures w.fault-is)
-      | in-default w ↦ reading.read_valid c.args.word.now c.loop-k.characters c.read-ten.new.ten k (9 * k + 9 - 9 * k) (10 * k + 10 - 10 * k) c.loop-k.invalid c.match-read-ten.invalid c.loop-k.fault c.match-read-ten.fault c.loop-k-test.true (omega arith) (omega arith) c.loop-k.invariant w.in-default.ensures w.invalid-is w.fault-is
+    elim c.match-read_ten.branch [
+      | in-Err+then-is_none w ↦ reading.read_invalid c.args.word.now c.loop-k.characters c.read_ten.new.ten k (9 * k + 9 - 9 * k) (10 * k + 10 - 10 * k) c.loop-k.invalid c.match-read_ten.invalid c.loop-k.fault c.match-read_ten.fault w.in-Err.found c.loop-k-test.true (omega arith) (omega arith) c.loop-k.invariant w.in-Err.ensures w.invalid-is
+          (reading.first_fault c.loop-k.fault c.match-read_ten.fault w.in-Err.found w.if-is_none.ensures w.fault-is)
+      | in-Err+else-is_none w ↦ reading.read_invalid c.args.word.now c.loop-k.characters c.read_ten.new.ten k (9 * k + 9 - 9 * k) (10 * k + 10 - 10 * k) c.loop-k.invalid c.match-read_ten.invalid c.loop-k.fault c.match-read_ten.fault w.in-Err.found c.loop-k-test.true (omega arith) (omega arith) c.loop-k.invariant w.in-Err.ensures w.invalid-is
+          (reading.later_fault c.loop-k.fault c.match-read_ten.fault w.in-Err.found w.if-is_none.ensures w.fault-is)
+      | in_default w ↦ reading.read_valid c.args.word.now c.loop-k.characters c.read_ten.new.ten k (9 * k + 9 - 9 * k) (10 * k + 10 - 10 * k) c.loop-k.invalid c.match-read_ten.invalid c.loop-k.fault c.match-read_ten.fault c.loop-k-test.true (omega arith) (omega arith) c.loop-k.invariant w.in_default.ensures w.invalid-is w.fault-is
     ]
 
 pub returns : goal.returns

@@ -8,7 +8,7 @@ returns-in-Some g c =
     let read = c.in-Some.ensures in
     record {
       small = xor_small c.in-Some.scrambled c.args.mask read.0 c.requires.mask;
-      right = λ _. ap (line_group (g.L.LineCode.pair c.args.line-code.now)) (xor_back c.in-Some.scrambled c.args.mask) ∙ read.1;
+      right = λ _. ap (line_group (g.L.LineCode.pair c.args.line_code.now)) (xor_back c.in-Some.scrambled c.args.mask) ∙ read.1;
       none = λ e. let z : ◌≡◌ {A = ℕ} 0 1 = cc in absurd (omega arith);
     }
 

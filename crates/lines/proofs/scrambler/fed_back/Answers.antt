@@ -4,7 +4,7 @@ use Rattle.lines.proofs.NineAtOnce.{master_fed, slave_fed}
 use Rattle.lines.proofs.scrambler.fed_back.Goals as goal
 
 pub returns-in-Master : goal.returns-in-Master
-returns-in-Master c = record { nine-moves-on = master_fed c.args.state c.requires ∙ ap (λ role. state_after role c.args.state 9 % 512) (sym c.in-Master.is) }
+returns-in-Master c = record { nine_moves_on = master_fed c.args.state c.requires ∙ ap (λ role. state_after role c.args.state 9 % 512) (sym c.in-Master.is) }
 
 pub returns-in-Slave : goal.returns-in-Slave
-returns-in-Slave c = record { nine-moves-on = slave_fed c.args.state c.requires ∙ ap (λ role. state_after role c.args.state 9 % 512) (sym c.in-Slave.is) }
+returns-in-Slave c = record { nine_moves_on = slave_fed c.args.state c.requires ∙ ap (λ role. state_after role c.args.state 9 % 512) (sym c.in-Slave.is) }

@@ -1,4 +1,4 @@
-use Rattle.std.proofs.Common.{◌≡◌, ◌+◌, ◌-◌, ◌*◌, ◌/◌, ◌%◌, ◌<◌, sym, ap, ◌∙◌, arith}
+use Rattle.std.proofs.Common.{◌+◌, ◌-◌, ◌*◌, ◌/◌, ◌%◌, sym, ap, ◌∙◌, arith}
 use lib.Bits.{bit_xor, xor_zero_l}
 use Rattle.arithmetic.specs.Polynomials.{gathered, product}
 use Rattle.arithmetic.specs.Linear.{chosen_below, twice_below}
@@ -6,8 +6,8 @@ use Rattle.arithmetic.specs.Inverses.{product_bound}
 use Rattle.arithmetic.proofs.Steps.{gathered_step, gathered_end}
 use Rattle.arithmetic.proofs.shifting.ShiftingArithmetic.product.Goals as goal
 
-pub overflow-mul-total : goal.overflow-mul-total
-overflow-mul-total c = record { fits = omega (arith, chosen_below c.loop-bit.rest c.loop-bit.moved c.loop-bit.invariant.0) }
+pub overflow_mul-total : goal.overflow_mul-total
+overflow_mul-total c = record { fits = omega (arith, chosen_below c.loop-bit.rest c.loop-bit.moved c.loop-bit.invariant.0) }
 
 pub loop-bit-init : goal.loop-bit-init
 loop-bit-init c = (omega arith, xor_zero_l _)

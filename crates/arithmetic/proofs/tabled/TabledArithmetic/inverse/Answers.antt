@@ -6,10 +6,10 @@ use Rattle.arithmetic.proofs.tabled.TabledArithmetic.inverse.Goals as goal
 pub returns-in-0 : goal.returns-in-0
 returns-in-0 c = record { value = sym (inverse_nothing c.args.a c.in-0.is); below = lit< tt }
 
-pub returns-in-default : goal.returns-in-default
-returns-in-default c =
+pub returns-in_default : goal.returns-in_default
+returns-in_default c =
     let l = c.logarithm in
     let some : 0 < c.args.a % 512 = omega arith in
     let e = c.power.ensures.value
-    ∙ inverse_by_logarithm c.args.a l.result l.ensures.at-most-a-round (l.ensures.power-back some) in
+    ∙ inverse_by_logarithm c.args.a l.result l.ensures.at_most_a_round (l.ensures.power_back some) in
     record { value = e; below = inverse_bound c.args.a c.power.result e }

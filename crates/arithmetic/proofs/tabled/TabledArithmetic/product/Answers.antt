@@ -1,4 +1,4 @@
-use Rattle.std.proofs.Common.{◌≡◌, ◌%◌, ◌<◌, ◌∙◌, inl, inr, arith, lit<}
+use Rattle.std.proofs.Common.{◌%◌, ◌<◌, ◌∙◌, inl, inr, arith, lit<}
 use Rattle.arithmetic.specs.Inverses.{product_bound}
 use Rattle.arithmetic.proofs.Lookup.{by_logarithms, none_left, none_right}
 use Rattle.arithmetic.proofs.tabled.TabledArithmetic.product.Goals as goal
@@ -16,5 +16,5 @@ returns-else-y-eq0 c =
     let left : 0 < c.args.a % 512 = omega arith in
     let right : 0 < c.args.b % 512 = omega arith in
     let e = c.power-found.ensures.value ∙ c.wrapped.ensures.same_power
-    ∙ by_logarithms c.args.a c.args.b m.result n.result (m.ensures.power-back left) (n.ensures.power-back right) in
+    ∙ by_logarithms c.args.a c.args.b m.result n.result (m.ensures.power_back left) (n.ensures.power_back right) in
     record { value = e; below = product_bound c.args.a c.args.b c.power-found.result e }

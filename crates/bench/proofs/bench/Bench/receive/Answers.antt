@@ -13,12 +13,12 @@ returns g c = record {
     full = search rules;
     room = search rules;
     outcome = accepted c.receive.result;
-    answers = c.receive.ensures.answers-by-its-rule;
+    answers = c.receive.ensures.answers_by_its_rule;
     tells = c.reported.ensures;
     sender = still (sender_end g.A.Arithmetic.field g.S.Stream.mask g.L.LineCode.pair c.args.self.now.sender);
-    receiver = c.receive.ensures.stands-later;
-    lock = c.receive.ensures.lock-moves;
+    receiver = c.receive.ensures.stands_later;
+    lock = c.receive.ensures.lock_moves;
     line = refl;
   };
-  number-stays = refl;
+  number_stays = refl;
 }

@@ -11,9 +11,9 @@ loop-step-init g c = ([], sym (append-nil _), zero-le, none)
 pub loop-step-preserved : goal.loop-step-preserved
 loop-step-preserved g c =
     let inv = c.loop-step.invariant in
-    let m = one_more _ _ c.args.octets.now _ _ _ _ _ _ c.in-Some.step inv.2 inv.3 c.in-Some.ensures.first-record-or-none in (
+    let m = one_more _ _ c.args.octets.now _ _ _ _ _ _ c.in-Some.step inv.2 inv.3 c.in-Some.ensures.first_record_or_none in (
       inv.0 ++ line_of c.in-Some.step.printed,
-      c.in-ok-print-line.ensures.adds-the-line ∙ ap (λ l. l ++ line_of c.in-Some.step.printed) inv.1 ∙ append_assoc (string_bytes c.args.out.now) inv.0 (line_of c.in-Some.step.printed),
+      c.in_ok-print_line.ensures.adds_the_line ∙ ap (λ l. l ++ line_of c.in-Some.step.printed) inv.1 ∙ append_assoc (string_bytes c.args.out.now) inv.0 (line_of c.in-Some.step.printed),
       m.0,
       m.1,
     )
@@ -23,8 +23,8 @@ returns g c =
     let inv = c.loop-step.invariant in
     let at = standing g.A.Arithmetic.field g.S.Stream.mask g.L.LineCode.pair in
     record {
-      all-whole-records =
+      all_whole_records =
           subst (λ bench. Ran (at c.args.self.now) c.args.self.now.number c.args.octets.now (string_bytes c.args.out.now) c.loop-step.taken (at bench) bench.number (string_bytes c.loop-step.out))
-          (sym c.in-default.ensures.nothing-for-none)
-          (record { text = inv.0; added = inv.1; inside = inv.2; runs = inv.3; no_more = subst NoRecord (from_place c.args.octets.now c.loop-step.taken) c.in-default.ensures.first-record-or-none });
+          (sym c.in_default.ensures.nothing_for_none)
+          (record { text = inv.0; added = inv.1; inside = inv.2; runs = inv.3; no_more = subst NoRecord (from_place c.args.octets.now c.loop-step.taken) c.in_default.ensures.first_record_or_none });
     }

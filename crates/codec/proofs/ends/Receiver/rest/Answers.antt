@@ -6,20 +6,20 @@ use Rattle.codec.proofs.Answering as answering
 use Rattle.codec.proofs.Faulted.{receiver_rest_found, receiver_rest_lost}
 use Rattle.codec.proofs.ends.Receiver.rest.Goals as goal
 
-pub returns-in-err-check-lock : goal.returns-in-err-check-lock
-returns-in-err-check-lock g c =
-    let p = err_from_is_err_and c.from-residual.result c.from-residual.ensures.1 in
+pub returns-in_err-check_lock : goal.returns-in_err-check_lock
+returns-in_err-check_lock g c =
+    let p = err_from_is_err_and c.from_residual.result c.from_residual.ensures.1 in
     let lock = c.args.self.now.lock in
-    let e = c.in-err-check-lock.field-0.0 in
-    let h = c.in-err-check-lock.ensures in
+    let e = c.in_err-check_lock.field-0.0 in
+    let h = c.in_err-check_lock.ensures in
     let first : first_of (faults lock receiver_rest) ≡ Some e = subst (λ l. first_of (faults l receiver_rest) ≡ Some EndFault.NoLock) (sym h.0) receiver_rest_lost ∙ ap Some (sym h.1) in
-    rw (p.1, p.2) (record { answers-by-its-rule = answering.refused (receiver_end g.A.Arithmetic.field g.S.Stream.mask g.L.LineCode.pair c.args.self.now) 0 lock receiver_rest e first; stands-later = answering.stands_still (receiver_end g.A.Arithmetic.field g.S.Stream.mask g.L.LineCode.pair c.args.self.now) lock receiver_rest e first; lock-stays = refl })
+    rw (p.1, p.2) (record { answers_by_its_rule = answering.refused (receiver_end g.A.Arithmetic.field g.S.Stream.mask g.L.LineCode.pair c.args.self.now) 0 lock receiver_rest e first; stands_later = answering.stands_still (receiver_end g.A.Arithmetic.field g.S.Stream.mask g.L.LineCode.pair c.args.self.now) lock receiver_rest e first; lock_stays = refl })
 
 pub returns : goal.returns
 returns g c =
     let lock = c.args.self.now.lock in
     record {
-      answers-by-its-rule = answering.performed (receiver_end g.A.Arithmetic.field g.S.Stream.mask g.L.LineCode.pair c.args.self.now) 0 lock receiver_rest _ _ (receiver_rest_found lock c.in-ok-check-lock.ensures) (refl, refl);
-      stands-later = record { arithmetic = refl; masks = c.pass-masks.ensures.masks-used; code = refl };
-      lock-stays = refl;
+      answers_by_its_rule = answering.performed (receiver_end g.A.Arithmetic.field g.S.Stream.mask g.L.LineCode.pair c.args.self.now) 0 lock receiver_rest _ _ (receiver_rest_found lock c.in_ok-check_lock.ensures) (refl, refl);
+      stands_later = record { arithmetic = refl; masks = c.pass_masks.ensures.masks_used; code = refl };
+      lock_stays = refl;
     }

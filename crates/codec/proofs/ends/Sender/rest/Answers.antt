@@ -6,20 +6,20 @@ use Rattle.codec.proofs.Faulted.{rest_room}
 use Rattle.codec.proofs.Answering as answering
 use Rattle.codec.proofs.ends.Sender.rest.Goals as goal
 
-pub returns-in-err-check-rest : goal.returns-in-err-check-rest
-returns-in-err-check-rest g c =
-    let p = err_from_is_err_and c.from-residual.result c.from-residual.ensures.1 in
+pub returns-in_err-check_rest : goal.returns-in_err-check_rest
+returns-in_err-check_rest g c =
+    let p = err_from_is_err_and c.from_residual.result c.from_residual.ensures.1 in
     let asked = sender_rest c.args.line.now in
-    let e = c.in-err-check-rest.field-0.0 in
-    let first = c.in-err-check-rest.ensures in
-    rw (p.1, p.2) (record { answers-by-its-rule = answering.refused (sender_end g.A.Arithmetic.field g.S.Stream.mask g.L.LineCode.pair c.args.self.now) 0 new_lock asked e first; stands-later = answering.stands_still (sender_end g.A.Arithmetic.field g.S.Stream.mask g.L.LineCode.pair c.args.self.now) new_lock asked e first })
+    let e = c.in_err-check_rest.field-0.0 in
+    let first = c.in_err-check_rest.ensures in
+    rw (p.1, p.2) (record { answers_by_its_rule = answering.refused (sender_end g.A.Arithmetic.field g.S.Stream.mask g.L.LineCode.pair c.args.self.now) 0 new_lock asked e first; stands_later = answering.stands_still (sender_end g.A.Arithmetic.field g.S.Stream.mask g.L.LineCode.pair c.args.self.now) new_lock asked e first })
 
 pub returns : goal.returns
 returns g c =
     let end = (sender_end g.A.Arithmetic.field g.S.Stream.mask g.L.LineCode.pair c.args.self.now) in
-    let room = rest_room new_lock c.args.line.now c.in-ok-check-rest.ensures in
+    let room = rest_room new_lock c.args.line.now c.in_ok-check_rest.ensures in
     let zeros = c.fill.ensures.after (λ y e. e) ∙ ap (λ n. replicate n (pos 0)) room in
     record {
-      answers-by-its-rule = answering.performed end 0 new_lock (sender_rest c.args.line.now) _ _ c.in-ok-check-rest.ensures (ap sender_rest zeros, refl);
-      stands-later = record { arithmetic = refl; masks = c.pass-masks.ensures.masks-used; code = refl };
+      answers_by_its_rule = answering.performed end 0 new_lock (sender_rest c.args.line.now) _ _ c.in_ok-check_rest.ensures (ap sender_rest zeros, refl);
+      stands_later = record { arithmetic = refl; masks = c.pass_masks.ensures.masks_used; code = refl };
     }

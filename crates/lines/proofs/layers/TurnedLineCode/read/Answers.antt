@@ -7,7 +7,7 @@ use Rattle.lines.proofs.layers.TurnedLineCode.read.Goals.{then-first-ltminus1-vi
 
 pub returns-then-first-ltminus1 : goal.returns-then-first-ltminus1
 returns-then-first-ltminus1 g c = record {
-  word-of-the-pair = λ w h e.
+  word_of_the_pair = λ w h e.
       let code = c.args.self.now.0 in
       let s : LinePair (c.args.first, c.args.second) = subst LinePair e (turned_line_pair (g.L.LineCode.pair code w) (g.met.L.LineCode.ternary code w h)) in
       let x : (negsuc 0 ≤ℤ c.args.first) × (c.args.first ≤ℤ pos 1) = symbol_range c.args.first s.0 in
@@ -23,4 +23,4 @@ returns-then-first-ltminus1 g c = record {
 pub returns : goal.returns
 returns g c =
     let s : LinePair (c.args.first, c.args.second) = (range_symbol c.args.first (omega (arith, ints)) (omega (arith, ints)), range_symbol c.args.second (omega (arith, ints)) (omega (arith, ints))) in
-    record { word-of-the-pair = reads_turned c.read.result (g.L.LineCode.pair c.args.self.now.0) _ (c.args.first, c.args.second) (turned_by_program (c.args.first, c.args.second) (c.args.first, c.args.second) refl s) c.read.ensures.word-of-the-pair }
+    record { word_of_the_pair = reads_turned c.read.result (g.L.LineCode.pair c.args.self.now.0) _ (c.args.first, c.args.second) (turned_by_program (c.args.first, c.args.second) (c.args.first, c.args.second) refl s) c.read.ensures.word_of_the_pair }

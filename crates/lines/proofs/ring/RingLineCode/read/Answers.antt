@@ -11,6 +11,6 @@ loop-word-preserved c = below_more _ _ c.loop-word.invariant (λ e.
 
 pub returns : goal.returns
 returns c = record {
-  word-of-the-pair = λ w h e.
+  word_of_the_pair = λ w h e.
       c.loop-word.invariant w (omega arith) (e ∙ ap (λ x. (x, c.args.second)) (sym (to_z-of_z w8 c.args.first c.ranges.first)) ∙ ap (λ y. (to_z w8 (of_z w8 c.args.first), y)) (sym (to_z-of_z w8 c.args.second c.ranges.second)));
 }

@@ -6,26 +6,26 @@ use Rattle.lines.specs.Moves.{state_after_state, mask_later}
 use Rattle.lines.proofs.NineAtOnce.{next_state_right, drawn_below, mask_right}
 use Rattle.lines.proofs.scrambler.ScramblerStream.next.Goals as goal
 
-pub invariant-of-self : goal.invariant-of-self
-invariant-of-self c =
+pub invariant_of-self : goal.invariant_of-self
+invariant_of-self c =
     let now = c.args.self.now in
-    let left = ap (bit_xor (bit_and now.state 63 * 512 % 65536)) c.fed-back-fed.ensures.nine-moves-on ∙ next_state_right now.role now.state now.ok.1 in
-    (subst (λ (s : ℕ). (0 < s) × (s < 32768)) (sym left) (state_after_state now.role now.state 9 now.ok.0 now.ok.1), tt)
+    let left = ap (bit_xor (bit_and now.state 63 * 512 % 65536)) c.fed_back-fed.ensures.nine_moves_on ∙ next_state_right now.role now.state now.ok.1 in
+    record { ok = subst (λ (s : ℕ). (0 < s) × (s < 32768)) (sym left) (state_after_state now.role now.state 9 now.ok.0 now.ok.1) }
 
 pub reversed-requires : goal.reversed-requires
 reversed-requires c =
-    let fed : c.fed-back-fed.result < 512 = omega (arith, c.fed-back-fed.ensures.nine-moves-on) in
+    let fed : c.fed_back-fed.result < 512 = omega (arith, c.fed_back-fed.ensures.nine_moves_on) in
     drawn_below _ _ fed
 
 pub returns : goal.returns
 returns c =
     let now = c.args.self.now in
-    let fed = c.fed-back-fed.ensures.nine-moves-on in
+    let fed = c.fed_back-fed.ensures.nine_moves_on in
     let left = ap (bit_xor (bit_and now.state 63 * 512 % 65536)) fed ∙ next_state_right now.role now.state now.ok.1 in
     record {
-      first-mask =
-          c.reversed.ensures.other-order
+      first_mask =
+          c.reversed.ensures.other_order
           ∙ ap (λ (f : ℕ). number (reverse (bits 9 (bit_xor (bit_and now.state 1 * 256 % 65536) (f / 2))))) fed
           ∙ mask_right now.role now.state now.ok.1;
-      others-follow = λ k. ap (λ (s : ℕ). scrambler_mask now.role s k) left ∙ mask_later now.role now.state k;
+      others_follow = λ k. ap (λ (s : ℕ). scrambler_mask now.role s k) left ∙ mask_later now.role now.state k;
     }
