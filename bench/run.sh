@@ -2,6 +2,7 @@
 # Builds the static library of the code for C and the benchmark, and runs it. It needs libfec (package libfec-dev) and a C compiler.
 set -e
 cd "$(dirname "$0")/.."
-rt staticlib code_c
-cc -O2 -o target/bench-code bench/code.c target/staticlib/libcode_c.a -lfec
+(cd crates/code_c && rt lib)
+mkdir -p target
+cc -O2 -o target/bench-code bench/code.c crates/code_c/out/libcode_c.a -lfec
 target/bench-code
