@@ -1,5 +1,5 @@
 -- A refused record leaves the bench where it stood. Assumes nothing.
-use Rattle.std.proofs.Common.{◌≡◌, ℕ, false, cond, ◌⊎◌, List, [], ◌∷◌, refl, ap, ◌∙◌, subst, ⊎_elim, arith}
+use Rattle.std.proofs.Common.{◌≡◌, ℕ, false, cond, List, [], ◌∷◌, refl, ap, ◌∙◌, subst, ⊎_elim, arith}
 use Rattle.refusal.specs.declared.kinds.Refusal.{Refusal}
 use Rattle.blocks.specs.declared.faults.BlockFault.TheVariants.{InputLength, OutputLength, NoCharacter, InvalidPointer, ReservedCode}
 use Rattle.code.specs.declared.fault.CodeFault.{CodeFault}

@@ -1,5 +1,5 @@
 -- Records one after another. Assumes nothing.
-use Rattle.std.proofs.Common.{◌≡◌, ℕ, ◌+◌, ◌-◌, ◌≤◌, List, ◌++◌, length, take, drop, sym, refl, subst, le_refl, arith, length-drop, take_all, take-add}
+use Rattle.std.proofs.Common.{◌≡◌, ℕ, ◌+◌, ◌-◌, ◌≤◌, List, ◌++◌, length, take, drop, sym, subst, le_refl, arith, length-drop, take_all, take-add}
 use Rattle.bench.specs.Benches.{Standing}
 use Rattle.bench.specs.Files.{Steps, Runs, more}
 use Rattle.bench.specs.Printing.{line_of}

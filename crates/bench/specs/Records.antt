@@ -1,5 +1,5 @@
 -- The octets of bench records. Assumes nothing.
-use Rattle.std.specs.Prelude.{◌≡◌, ℕ, ◌/◌, ◌%◌, ◌<◌, List, [], ◌∷◌, ◌++◌, ℤ, pos, ◌-ℤ◌}
+use Rattle.std.specs.Prelude.{◌≡◌, ℕ, ◌/◌, ◌%◌, ◌<◌, List, [], ◌∷◌, ◌++◌, pos, ◌-ℤ◌}
 use Rattle.std.specs.List.{flat_map}
 use Rattle.bench.specs.declared.kinds.Kind.{Kind}
 use Rattle.bench.specs.declared.kinds.Kind.TheVariants.{Send, Hit as Hits, Receive, Rest}

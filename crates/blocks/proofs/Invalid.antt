@@ -5,7 +5,6 @@ use Rattle.std.proofs.lemmas.Bool.{ltb-false, lt-ltb, eqb-true, eqb-false, both_
 use Rattle.blocks.specs.Characters as characters
 use Rattle.blocks.specs.Faults.{block_refusal}
 use Rattle.blocks.specs.Bits.{bits, number, unpacked}
-use Rattle.refusal.specs.declared.kinds.Refusal.{Refusal}
 use Rattle.blocks.specs.Blocks.{reserved_code, pointer, header, position, more, from_code, coded, ValidPointer, InvalidFrom, pointer_invalid, code_invalid, later, InvalidField, header_invalid, field_invalid, Encodes, ReadRefused}
 use Rattle.blocks.specs.Steps.{turned, is_character, control_read, valid, before_all, onward, started, reading}
 use Rattle.blocks.specs.declared.faults.BlockFault.{BlockFault}

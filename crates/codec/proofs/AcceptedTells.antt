@@ -2,7 +2,7 @@
 use Rattle.std.proofs.Common.{◌≡◌, ℕ, ◌⊎◌, List, ℤ, sym, refl, ap, ◌∙◌, subst, inl, inr}
 use Rattle.codec.specs.Calls.{Call, Accepts, GivesUp}
 use Rattle.codec.specs.Ends.{End}
-use Rattle.codec.specs.Histories.{Event, Receives}
+use Rattle.codec.specs.Histories.{Event}
 use Rattle.codec.specs.Law.{EveryCallAnswers, AcceptedIsNearExactlyOne, TellsOfCodeword}
 use Rattle.codec.specs.Lines.{Near}
 use Rattle.codec.specs.declared.lock.Lock.{Lock}

@@ -2,9 +2,9 @@
 use Rattle.std.proofs.Common.{◌≡◌, ℕ, ◌<◌, Bool, true, false, cond, not, T, eqb, ltb, ◌⊎◌, ◌↔◌, List, [], ◌∷◌, ◌++◌, length, ℤ, sym, refl, ap, ◌∙◌, subst, inl, inr, lt_irrefl}
 use Rattle.std.specs.List.{flat_map, prefix_len, AllByRecursion}
 use Rattle.codec.specs.Calls.{Call, send, sender_rest, receive, receiver_rest, fault_if, without_lock, wrong_length, wrong_number, checks, faults, beyond_repair, is_period, is_character, Performs, Answers, Accepts, GivesUp}
-use Rattle.codec.specs.Ends.{End, Agree}
-use Rattle.codec.specs.Histories.{Event, Occurs, Sends, Receives, at_sender, sender_periods, receiver_periods, lock_from}
-use Rattle.codec.specs.Law.{EveryCallAnswers, BeyondRepairExactlyWhenNoneNear, Refuses, RefusedExactly, Hopeless}
+use Rattle.codec.specs.Ends.{End}
+use Rattle.codec.specs.Histories.{Event, Sends, Receives, at_sender, sender_periods, receiver_periods, lock_from}
+use Rattle.codec.specs.Law.{EveryCallAnswers, BeyondRepairExactlyWhenNoneNear, Refuses, RefusedExactly}
 use Rattle.codec.specs.Refusals.{end_refusal}
 use Rattle.codec.specs.Lines.{NoneNear}
 use Rattle.lines.specs.LineCodes.{is_line_symbol}

@@ -1,12 +1,12 @@
 -- What it means that a call has no fault, and what its first fault is. Assumes nothing.
-use Rattle.std.proofs.Common.{◌≡◌, ℕ, zero, suc, ◌+◌, ◌<◌, ◌≤◌, Bool, true, false, cond, not, eqb, ltb, List, [], ◌∷◌, ◌++◌, length, get_or, ℤ, Some, None, Option, sym, refl, ap, ◌∙◌, subst, inl, inr, arith}
+use Rattle.std.proofs.Common.{◌≡◌, ℕ, zero, suc, ◌<◌, ◌≤◌, Bool, true, false, not, eqb, ltb, List, [], ◌∷◌, ◌++◌, length, ℤ, Some, refl, ap, ◌∙◌, inl, inr, arith}
 use Rattle.std.specs.List.{prefix_len}
-use Rattle.std.proofs.lemmas.Bool.{eqb-true, eq-eqb, ne_eqb, ltb-false, ltb-true, lt-ltb, le-ltb, both_ways}
+use Rattle.std.proofs.lemmas.Bool.{eqb-true, eq-eqb, ne_eqb, ltb-false, lt-ltb, le-ltb, both_ways}
 use Rattle.std.proofs.lemmas.Bool.Decides.{nat_tests}
 use Rattle.blocks.specs.Characters.{Character, Characters, FirstNoCharacter}
 use Rattle.blocks.specs.declared.faults.BlockFault.{BlockFault}
 use Rattle.lines.specs.LineCodes.{is_line_symbol}
-use Rattle.codec.specs.Calls.{Call, send, sender_rest, receive, receiver_rest, is_character, fault_if, without_lock, wrong_length, wrong_number, faults, first_of}
+use Rattle.codec.specs.Calls.{send, sender_rest, receive, receiver_rest, is_character, fault_if, without_lock, wrong_length, wrong_number, faults, first_of}
 use Rattle.codec.specs.declared.lock.Lock.{Lock}
 use Rattle.codec.specs.declared.lock.Lock.TheVariants.{Locked, Lost}
 use Rattle.codec.specs.declared.faults.LineFault.{LineFault}

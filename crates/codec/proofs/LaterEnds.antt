@@ -1,10 +1,10 @@
 -- What an end answers some periods later is what its rule says of that period. Assumes nothing.
-use Rattle.std.proofs.Common.{◌≡◌, ℕ, ◌+◌, ◌*◌, ◌≤◌, ◌⊎◌, List, [], ◌∷◌, ◌++◌, length, ℤ, sym, refl, ap, ◌∙◌, subst, ap₂, inl, inr, arith}
+use Rattle.std.proofs.Common.{◌≡◌, ℕ, ◌+◌, ◌*◌, ◌≤◌, List, [], ◌∷◌, ◌++◌, ℤ, sym, refl, ap, ◌∙◌, subst, ap₂, inl, inr, arith}
 use lib.Bits.{bit_xor}
 use Rattle.code.specs.Words.{Codeword}
 use Rattle.codec.specs.Calls.{Call, send, sender_rest, receive, receiver_rest, faults, LineSent, Told, Accepts, GivesUp, Performs, Answers}
 use Rattle.codec.specs.Ends.{End, Later}
-use Rattle.codec.specs.Lines.{Near, NoneNear, line_group, line_from, line_frame, differing, apart, padded}
+use Rattle.codec.specs.Lines.{Near, line_group, line_from, line_frame, differing, apart, padded}
 use Rattle.codec.specs.declared.faults.EndFault.{EndFault}
 use Rattle.codec.specs.declared.lock.Lock.{Lock}
 use Rattle.codec.specs.declared.request.Outcome.{Outcome}

@@ -1,5 +1,5 @@
 -- Line frames of all periods: length, symbols, one word for each, at most one near, equal where ends agree. Assumes nothing.
-use Rattle.std.proofs.Common.{◌≡◌, ℕ, zero, suc, ◌+◌, ◌*◌, ◌/◌, ◌%◌, ◌<◌, ◌≤◌, Bool, true, false, not, ◌||◌, T, List, [], ◌∷◌, ◌++◌, length, get_or, ℤ, filter, sym, refl, ap, ◌∙◌, subst, add-zero, arith}
+use Rattle.std.proofs.Common.{◌≡◌, ℕ, zero, suc, ◌+◌, ◌*◌, ◌/◌, ◌%◌, ◌<◌, ◌≤◌, Bool, true, false, not, ◌||◌, T, List, [], ◌∷◌, ◌++◌, length, get_or, ℤ, filter, sym, refl, ap, ◌∙◌, subst, arith}
 use borrow.Author.Tests.{eqb-false, not-true}
 use lib.Bits.{bit_xor}
 use Rattle.std.specs.List.{prefix_len}

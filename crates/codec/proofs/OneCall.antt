@@ -1,5 +1,5 @@
 -- One call of a run, from what the end's own call ensures. Assumes nothing.
-use Rattle.std.proofs.Common.{◌≡◌, ℕ, ◌+◌, ◌*◌, false, ◌⊎◌, List, [], ◌∷◌, ℤ, sym, refl, ap, ◌∙◌, subst, inl, inr, arith}
+use Rattle.std.proofs.Common.{◌≡◌, ℕ, false, List, [], ◌∷◌, ℤ, sym, refl, ap, ◌∙◌, arith}
 use Rattle.std.specs.List.{AllByRecursion}
 use Rattle.codec.specs.Calls.{Call, send, sender_rest, receive, receiver_rest, faults, is_period, periods_of, lock_after, Performs, Answers}
 use Rattle.codec.specs.Ends.{End, Later}

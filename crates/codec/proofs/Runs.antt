@@ -1,12 +1,12 @@
 -- A run, call by call. Assumes nothing.
-use Rattle.std.proofs.Common.{◌≡◌, ℕ, zero, suc, ◌+◌, ◌<◌, ◌≤◌, Bool, true, false, cond, not, ◌&&◌, ◌⊎◌, List, [], ◌∷◌, ◌++◌, length, get_or, take, drop, set, count_by, sym, refl, ap, ◌∙◌, subst, ap₂, inl, inr, append_assoc, append-nil, add-zero, arith, length-set, length-take, take_all, drop-set-lt}
-use Rattle.std.proofs.lemmas.List.{take_more, take_more_set, drop_more, drop_all}
+use Rattle.std.proofs.Common.{◌≡◌, ℕ, ◌+◌, ◌<◌, ◌≤◌, Bool, true, false, cond, not, ◌&&◌, ◌⊎◌, List, [], ◌∷◌, ◌++◌, length, get_or, take, drop, set, count_by, sym, refl, ap, ◌∙◌, subst, ap₂, inl, inr, arith, length-set, length-take, take_all, drop-set-lt}
+use Rattle.std.proofs.lemmas.List.{take_more, take_more_set, drop_more}
 use Rattle.std.proofs.lemmas.List.Sums.{fold_push}
 use Rattle.codec.specs.Calls.{Call, Answers, content, is_period, lock_after}
 use Rattle.codec.specs.Ends.{End, Later}
 use Rattle.codec.specs.Histories.{Event, Occurs, history, at_sender, sender_periods, receiver_periods, lock_from}
 use Rattle.codec.specs.Law.{EveryCallAnswers}
-use Rattle.codec.specs.Turning.{Turned, Standing, standing, sender_period, receiver_period}
+use Rattle.codec.specs.Turning.{Turned, Standing, sender_period, receiver_period}
 use Rattle.codec.specs.declared.lock.Lock.{Lock}
 use Rattle.codec.specs.declared.request.Turn.{Turn}
 use Rattle.codec.proofs.LaterEnds.{answers_here, later_on}

@@ -1,11 +1,11 @@
 -- What was sent comes back. Assumes nothing.
-use Rattle.std.proofs.Common.{◌≡◌, ℕ, ◌<◌, ◌≤◌, ◌⊎◌, List, length, take, ℤ, None, sym, refl, ap, ◌∙◌, subst, inl, inr}
+use Rattle.std.proofs.Common.{◌≡◌, ℕ, ◌<◌, ◌≤◌, ◌⊎◌, List, length, take, ℤ, None, sym, ap, ◌∙◌, subst, inl, inr}
 use Rattle.blocks.specs.Characters.{Characters}
 use Rattle.code.specs.Words.{Codeword}
 use Rattle.codec.specs.Calls.{Call, send, receive, LineSent, Told, Accepts, GivesUp, Performs}
 use Rattle.codec.specs.Ends.{End}
 use Rattle.codec.specs.Frames.{message_of}
-use Rattle.codec.specs.Histories.{Event, Sends, Receives, line_in, lock_from}
+use Rattle.codec.specs.Histories.{Event, line_in, lock_from}
 use Rattle.codec.specs.Law.{EveryCallAnswers, SentComesBack}
 use Rattle.codec.specs.Lines.{Near, line_frame, differing, apart, padded}
 use Rattle.codec.specs.declared.lock.Lock.{Lock}

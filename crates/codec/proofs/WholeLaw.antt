@@ -1,8 +1,7 @@
 -- The whole law over a run. Assumes nothing.
-use Rattle.std.proofs.Common.{◌≡◌, ℕ, ◌<◌, List, length, take, ℤ, Option, sym, refl, ap, ◌∙◌}
+use Rattle.std.proofs.Common.{◌≡◌, ℕ, ◌<◌, List, ℤ, Option, ap, ◌∙◌}
 use Rattle.arithmetic.specs.Laws.{Lawful}
 use Rattle.code.specs.Words.{Codeword}
-use Rattle.codec.specs.Calls.{Told}
 use Rattle.codec.specs.Ends.{End, Agree}
 use Rattle.codec.specs.Histories.{Event}
 use Rattle.codec.specs.Law.{SentComesBack, BeyondRepairExactlyWhenNoneNear, AcceptedIsNearExactlyOne, RefusedExactly}
@@ -10,7 +9,7 @@ use Rattle.codec.specs.Lines.{Near, line_frame}
 use Rattle.codec.specs.Turning.{Standing}
 use Rattle.codec.proofs.Answered as answered
 use Rattle.codec.proofs.AcceptedTells.{accepted_is_near_exactly_one}
-use Rattle.codec.proofs.SentComesBack.{CarriesBack, clean, sent_comes_back}
+use Rattle.codec.proofs.SentComesBack.{CarriesBack, sent_comes_back}
 use Rattle.codec.specs.declared.report.Report.{Report}
 use Rattle.codec.specs.declared.faults.FrameFault.{FrameFault}
 use Rattle.codec.proofs.Carried.{carried, told_clean}

@@ -1,7 +1,6 @@
 -- What each call must answer, and what it must leave in every buffer. Assumes nothing.
 use Rattle.std.specs.Prelude.{◌≡◌, ℕ, Bool, true, false, cond, not, ◌||◌, ◌⊎◌, List, [], ◌∷◌, length, take, replicate, ℤ, pos, Some, None, Ok, Err, vec_items, Option, Result, ◌==◌, nat_lt}
 use Rattle.std.specs.List.{flat_map, prefix_len}
-use Rattle.refusal.specs.declared.kinds.Refusal.{Refusal}
 use Rattle.blocks.specs.declared.faults.BlockFault.{BlockFault}
 use Rattle.code.specs.Words.{Codeword}
 use Rattle.code.specs.declared.fault.CodeFault.{CodeFault}
@@ -9,7 +8,7 @@ use Rattle.lines.specs.LineCodes.{is_line_symbol}
 use Rattle.arithmetic.specs.Laws.{Operations}
 use Rattle.codec.specs.Ends.{End, made_over}
 use Rattle.codec.specs.Frames.{message_of, symbol_of}
-use Rattle.codec.specs.Lines.{Near, NoneNear, line_frame, differing, apart, padded}
+use Rattle.codec.specs.Lines.{Near, NoneNear, line_frame, differing, padded}
 use Rattle.codec.specs.Locks.{next_lock}
 use Rattle.codec.specs.Refusals.{end_refusal}
 use Rattle.codec.specs.Reports.{FrameTold}

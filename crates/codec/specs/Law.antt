@@ -1,7 +1,7 @@
 -- The law of what passes between two ends. Assumes nothing.
 use Rattle.std.specs.Prelude.{◌≡◌, ℕ, ◌^◌, ◌<◌, ◌≤◌, cond, ◌↔◌, List, [], ◌∷◌, length, ℤ, None}
 use Rattle.codec.specs.Calls.{Call, send, sender_rest, receive, receiver_rest, faults, beyond_repair, Answers}
-use Rattle.codec.specs.Ends.{End, Agree}
+use Rattle.codec.specs.Ends.{End}
 use Rattle.codec.specs.Frames.{symbol_of, block_at, ten_at}
 use Rattle.codec.specs.Histories.{Event, Occurs, Sends, Receives, at_sender, sender_periods, receiver_periods, lock_from}
 use Rattle.codec.specs.Lines.{Near, NoneNear, line_frame, differing, apart, padded}

@@ -1,5 +1,5 @@
 -- How a frame's outcome moves the lock. Assumes nothing.
-use Rattle.std.specs.Prelude.{ℕ, ◌+◌, cond, nat_lt}
+use Rattle.std.specs.Prelude.{◌+◌, cond, nat_lt}
 use Rattle.codec.specs.declared.lock.Lock.{Lock}
 use Rattle.codec.specs.declared.lock.Lock.TheVariants.{Locked, Lost}
 use Rattle.codec.specs.declared.lock.FrameOutcome.{FrameOutcome}

@@ -2,7 +2,6 @@
 #![tactic(auto)]
 
 use bench::standard_bench;
-use lines::LineCode;
 use std::io::{Read, Write};
 
 /// How many octets are read at once.

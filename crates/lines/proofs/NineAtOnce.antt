@@ -1,12 +1,12 @@
 -- Nine moves of a scrambler at once. Each side keeps exclusive-or, so that it is enough to
 -- compute both at the low nine and at the high six bits of a state. Assumes nothing.
-use Rattle.std.proofs.Common.{◌≡◌, ℕ, zero, suc, ◌+◌, ◌*◌, ◌/◌, ◌%◌, ◌^◌, ◌<◌, T, eqb, List, [], ◌∷◌, reverse, get_or, sym, refl, ap, ◌∙◌, arith, eqb→eq}
+use Rattle.std.proofs.Common.{◌≡◌, ℕ, zero, suc, ◌*◌, ◌/◌, ◌%◌, ◌^◌, ◌<◌, T, eqb, List, [], ◌∷◌, reverse, get_or, sym, ◌∙◌, arith, eqb→eq}
 use lib.Bits.{bit_and, bit_xor, and_le_r, xor_lt}
 use Rattle.blocks.specs.Bits.{bits, number}
-use Rattle.lines.specs.Scramblers.{tap, moved, state_after, next_bits, scrambler_mask}
+use Rattle.lines.specs.Scramblers.{moved, state_after, next_bits, scrambler_mask}
 use Rattle.lines.specs.declared.role.Role.{Role}
 use Rattle.lines.specs.declared.role.Role.TheVariants.{Master, Slave}
-use Rattle.lines.specs.Linear.{Linear, itself, nothing, same, before, both, high, low, masked, raised, agree, agree_low, agree_high, each_below, below_at}
+use Rattle.lines.specs.Linear.{Linear, nothing, before, both, high, low, masked, raised, agree, agree_low, agree_high, each_below, below_at}
 use Rattle.lines.specs.Moves.{state_after_linear, next_bits_linear, mask_first}
 
 -- ---- the bits fed back

@@ -1,7 +1,7 @@
 -- Turning both signs of a pair of line symbols. Assumes nothing.
-use Rattle.std.proofs.Common.{◌≡◌, ℕ, ◌<◌, T, ℤ, pos, negsuc, ◌-ℤ◌, neg_ℤ, ◌≤ℤ◌, Some, None, Option, sym, ap, ◌∙◌, subst, arith, w8, to_z, of_z}
+use Rattle.std.proofs.Common.{◌≡◌, ℕ, T, ℤ, pos, negsuc, ◌-ℤ◌, neg_ℤ, ◌≤ℤ◌, Some, None, Option, sym, ap, ◌∙◌, subst, arith, w8, to_z, of_z}
 use lib.IntN.{neg_ℤ-neg_ℤ}
-use Rattle.std.proofs.lemmas.Int.{ints, to_z-of_z}
+use Rattle.std.proofs.lemmas.Int.{ints}
 use Rattle.lines.specs.LineCodes.{is_line_symbol, LinePair, turned, Reads}
 
 pub symbol_range : (z : ℤ) → T (is_line_symbol z) → (negsuc 0 ≤ℤ z) × (z ≤ℤ pos 1)

@@ -1,7 +1,7 @@
 -- Functions that keep exclusive-or. Two of them that agree on the low nine and on the high
 -- six of fifteen bits agree on all fifteen. Assumes nothing.
-use Rattle.std.specs.Prelude.{◌≡◌, ℕ, zero, suc, ◌+◌, ◌-◌, ◌*◌, ◌/◌, ◌%◌, ◌^◌, ◌<◌, Bool, true, false, T, ◌⊎◌, bit_and, bit_xor, nat_eq, refl}
-use Rattle.std.proofs.Common.{sym, ap, ap₂, ◌∙◌, subst, inl, inr, add-zero, eq-or-lt_of_le, le_of_suc-le-suc, not-suc-le-zero, arith, eqb→eq, lit<, pow_pos}
+use Rattle.std.specs.Prelude.{◌≡◌, ℕ, zero, suc, ◌+◌, ◌-◌, ◌*◌, ◌/◌, ◌%◌, ◌^◌, ◌<◌, Bool, true, false, T, bit_and, bit_xor, nat_eq, refl}
+use Rattle.std.proofs.Common.{sym, ap, ap₂, ◌∙◌, subst, inl, inr, add-zero, eq-or-lt_of_le, le_of_suc-le-suc, not-suc-le-zero, arith, eqb→eq, pow_pos}
 use Rattle.std.proofs.lemmas.Nat.{and_mask, xor_block, xor_mod, xor_shr, xor_comm}
 use Rattle.std.specs.Int.Bits.{xor_shifted, xor_assoc}
 

@@ -1,4 +1,4 @@
-use Rattle.std.proofs.Common.{◌≡◌, List, [], length, ℤ, Some, Ok, Err, Result, sym, ◌∙◌, MatchResult}
+use Rattle.std.proofs.Common.{◌≡◌, List, [], length, ℤ, Some, Ok, Err, Result, ◌∙◌, MatchResult}
 use Rattle.codec.specs.Calls.{faults, first_of, sender_rest}
 use Rattle.codec.specs.Locks.{new_lock}
 use Rattle.codec.specs.declared.faults.EndFault.{EndFault}

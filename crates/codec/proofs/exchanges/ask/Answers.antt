@@ -1,7 +1,6 @@
-use Rattle.std.proofs.Common.{◌≡◌, ℕ, List, ◌++◌, length, take, drop, sym, refl, ap, ◌∙◌, subst, ap₂}
+use Rattle.std.proofs.Common.{◌≡◌, ℕ, List, ◌++◌, length, take, drop, ◌∙◌}
 use Rattle.std.proofs.lemmas.List.{take_at}
-use Rattle.codec.specs.Calls.{content, send, sender_rest, receive, receiver_rest, done, accepted, sender_end, receiver_end}
-use Rattle.codec.specs.Turning.{Turned, standing}
+use Rattle.codec.specs.Calls.{done, accepted, sender_end, receiver_end}
 use Rattle.codec.proofs.OneCall as one
 use Rattle.codec.proofs.exchanges.ask.Goals as goal
 

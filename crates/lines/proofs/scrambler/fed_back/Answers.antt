@@ -1,4 +1,4 @@
-use Rattle.std.proofs.Common.{◌≡◌, ◌%◌, sym, ap, ◌∙◌}
+use Rattle.std.proofs.Common.{◌%◌, sym, ap, ◌∙◌}
 use Rattle.lines.specs.Scramblers.{state_after}
 use Rattle.lines.proofs.NineAtOnce.{master_fed, slave_fed}
 use Rattle.lines.proofs.scrambler.fed_back.Goals as goal

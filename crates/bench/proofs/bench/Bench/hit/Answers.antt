@@ -1,4 +1,4 @@
-use Rattle.std.proofs.Common.{◌≡◌, set, sym, refl, ap, subst, w8, to_z, of_z, rules}
+use Rattle.std.proofs.Common.{◌≡◌, set, refl, ap, subst, w8, to_z, of_z, rules}
 use Rattle.std.proofs.lemmas.Result.{err_from_is_err_and}
 use Rattle.bench.specs.Benches.{standing, Hits, in_range, out_of_range}
 use Rattle.bench.proofs.Standing.{still, unchanged, bad_answer}

@@ -1,11 +1,11 @@
-use Rattle.std.proofs.Common.{◌≡◌, length, get_or, replicate, sym, refl, ap, ◌∙◌, subst, ap₂, inl, inr}
+use Rattle.std.proofs.Common.{◌≡◌, length, get_or, replicate, sym, refl, ap, ◌∙◌, ap₂, inl, inr}
 use Rattle.std.proofs.lemmas.Result.{err_from_is_err_and}
 use Rattle.codec.specs.Calls.{receive, receiver_end, beyond_repair}
 use Rattle.codec.specs.Checking.{wrapped_code}
 use Rattle.codec.specs.Lines.{differing, line_frame}
 use Rattle.codec.proofs.Padding.{padded_length}
 use Rattle.codec.proofs.Answering as answering
-use Rattle.codec.proofs.Faulted.{Receivable, receivable}
+use Rattle.codec.proofs.Faulted.{receivable}
 use Rattle.codec.proofs.ends.Receiver.receive.Goals as goal
 
 pub returns-in_err-check_receive : goal.returns-in_err-check_receive

@@ -1,4 +1,4 @@
-use Rattle.std.proofs.Common.{◌≡◌, sym, ap, ◌∙◌, arith, w8, to_z, of_z, below_more}
+use Rattle.std.proofs.Common.{sym, ap, ◌∙◌, arith, w8, to_z, of_z, below_more}
 use Rattle.std.proofs.lemmas.Int.{ints, to_z-of_z}
 use Rattle.lines.proofs.ring.RingLineCode.read.Goals as goal
 use Rattle.lines.proofs.ring.RingLineCode.read.Goals.{else-x-first-via-then-x-first+else-y-second, else-x-first-via-else-x-first}

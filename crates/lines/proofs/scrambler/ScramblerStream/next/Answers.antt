@@ -1,7 +1,7 @@
-use Rattle.std.proofs.Common.{◌≡◌, ℕ, ◌*◌, ◌/◌, ◌%◌, ◌<◌, reverse, sym, ap, ◌∙◌, subst, arith}
+use Rattle.std.proofs.Common.{ℕ, ◌*◌, ◌/◌, ◌%◌, ◌<◌, reverse, sym, ap, ◌∙◌, subst, arith}
 use lib.Bits.{bit_and, bit_xor}
 use Rattle.blocks.specs.Bits.{bits, number}
-use Rattle.lines.specs.Scramblers.{state_after, scrambler_mask}
+use Rattle.lines.specs.Scramblers.{scrambler_mask}
 use Rattle.lines.specs.Moves.{state_after_state, mask_later}
 use Rattle.lines.proofs.NineAtOnce.{next_state_right, drawn_below, mask_right}
 use Rattle.lines.proofs.scrambler.ScramblerStream.next.Goals as goal
