@@ -4,15 +4,15 @@ ghost use Rattle.code.specs.Words.{Word};
 
 use crate::frame::{frame_symbols, read_frame};
 use blocks::{BlockFault, first_no_character};
-use std::process::Abort;
 use std::test::Fail;
 
 /// The symbols of 450 characters and a management symbol.
-fn symbols(rt: &impl Abort, characters: &[u16], symbol: u16) -> Result<[u16; 450], Fail>
+fn symbols(characters: &[u16], symbol: u16) -> Result<[u16; 450], Fail>
     ensures { IfOk result (λ word. Word word) }
 {
-    assert!(rt; characters.len() == 450);
-    assert!(rt; symbol < 512);
+    if characters.len() != 450 || symbol >= 512 {
+        return Err(Fail::new("no frame"));
+    }
     match first_no_character(characters) {
         None => Ok(frame_symbols(characters, symbol)),
         Some(_) => Err(Fail::new("no character")),
@@ -21,7 +21,7 @@ fn symbols(rt: &impl Abort, characters: &[u16], symbol: u16) -> Result<[u16; 450
 
 #[test]
 fn zeros_stay_zeros(rt: HostRuntime) -> Result<(), Fail> {
-    assert_eq!(rt; symbols(&rt, &[0; 450], 0)?, [0; 450]);
+    assert_eq!(rt; symbols(&[0; 450], 0)?, [0; 450]);
     Ok(())
 }
 
@@ -30,7 +30,7 @@ fn header_and_octets_share_symbols(rt: HostRuntime) -> Result<(), Fail> {
     let mut characters = [0u16; 450];
     characters[9] = 257;
     characters[449] = 255;
-    let word = symbols(&rt, &characters, 511)?;
+    let word = symbols(&characters, 511)?;
     assert_eq!(rt; word[0], 19);
     assert_eq!(rt; word[1], 0);
     assert_eq!(rt; word[404], 510);
@@ -46,7 +46,7 @@ fn mixed_frame_comes_back(rt: HostRuntime) -> Result<(), Fail> {
     sent[19] = 257;
     sent[20] = 261;
     sent[449] = 256;
-    let word = symbols(&rt, &sent, 300)?;
+    let word = symbols(&sent, 300)?;
     let mut back = [0u16; 450];
     let report = read_frame(&word, &mut back);
     assert_eq!(rt; back, sent);

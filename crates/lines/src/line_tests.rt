@@ -7,7 +7,7 @@ use crate::ring::Ring;
 use crate::role::Role;
 use crate::scrambler::Scrambler;
 use crate::stream::{Silent, Stream};
-use std::process::Abort;
+use std::fmt::Debug;
 use std::test::Fail;
 
 const ORDERED: [(i8, i8); 8] = [
@@ -73,57 +73,60 @@ const MASTER_FROM_32767: [u16; 6] = [481, 368, 71, 300, 17, 309];
 
 const SLAVE_FROM_10922: [u16; 6] = [0, 40, 160, 133, 321, 341];
 
+// Fails a test where an answer is not the one that is wanted.
+fn check_eq<T: PartialEq + Debug + Drop>(answer: T, wanted: T) -> Result<(), Fail> {
+    if answer != wanted {
+        return Err(Fail::new(format_args!("{answer:?} in place of {wanted:?}")));
+    }
+    Ok(())
+}
+
 // Every word writes its pair and is read from it; what no word writes is read as none.
-fn writes<L: LineCode>(rt: &impl Abort, code: &L, pairs: &[(i8, i8); 8]) {
+fn writes<L: LineCode>(code: &L, pairs: &[(i8, i8); 8]) -> Result<(), Fail> {
     for word in 0..8u8 {
         let pair = pairs[word as usize];
-        assert_eq!(rt; code.write(word), pair);
-        assert_eq!(rt; code.write(word + 8), pair);
-        assert_eq!(rt; code.read(pair.0, pair.1), Some(word));
+        check_eq(code.write(word), pair)?;
+        check_eq(code.write(word + 8), pair)?;
+        check_eq(code.read(pair.0, pair.1), Some(word))?;
     }
-    assert_eq!(rt; code.read(0, 0), None);
-    assert_eq!(rt; code.read(2, 1), None);
-    assert_eq!(rt; code.read(0, -2), None);
-    assert_eq!(rt; code.read(-128, -128), None);
-    assert_eq!(rt; code.read(127, 1), None);
+    check_eq(code.read(0, 0), None)?;
+    check_eq(code.read(2, 1), None)?;
+    check_eq(code.read(0, -2), None)?;
+    check_eq(code.read(-128, -128), None)?;
+    check_eq(code.read(127, 1), None)
 }
 
 #[test]
-fn both_codes_write_their_pairs(rt: HostRuntime) {
-    writes(&rt, &Ordered, &ORDERED);
-    writes(&rt, &Ring, &RING);
+fn both_codes_write_their_pairs() -> Result<(), Fail> {
+    writes(&Ordered, &ORDERED)?;
+    writes(&Ring, &RING)
 }
 
 #[test]
-fn layers_stack(rt: HostRuntime) {
-    writes(&rt, &Turned(Ring), &RING_TURNED);
-    writes(&rt, &Exchanged(Ordered), &ORDERED_EXCHANGED);
-    writes(&rt, &Exchanged(Turned(Ring)), &RING_TURNED_AND_EXCHANGED);
-    writes(&rt, &Turned(Turned(Ordered)), &ORDERED);
+fn layers_stack() -> Result<(), Fail> {
+    writes(&Turned(Ring), &RING_TURNED)?;
+    writes(&Exchanged(Ordered), &ORDERED_EXCHANGED)?;
+    writes(&Exchanged(Turned(Ring)), &RING_TURNED_AND_EXCHANGED)?;
+    writes(&Turned(Turned(Ordered)), &ORDERED)
 }
 
-fn starts<S: Stream>(rt: &impl Abort, stream: &mut S, masks: &[u16; 6]) {
+fn starts<S: Stream>(stream: &mut S, masks: &[u16; 6]) -> Result<(), Fail> {
     for mask in masks {
-        assert_eq!(rt; stream.next(), *mask);
+        check_eq(stream.next(), *mask)?;
     }
+    Ok(())
 }
 
 #[test]
-fn both_roles_give_their_masks(rt: HostRuntime) -> Result<(), Fail> {
-    starts(&rt, &mut Scrambler::new(Role::Master, 1)?, &MASTER_FROM_1);
-    starts(&rt, &mut Scrambler::new(Role::Slave, 1)?, &SLAVE_FROM_1);
+fn both_roles_give_their_masks() -> Result<(), Fail> {
+    starts(&mut Scrambler::new(Role::Master, 1)?, &MASTER_FROM_1)?;
+    starts(&mut Scrambler::new(Role::Slave, 1)?, &SLAVE_FROM_1)?;
     starts(
-        &rt,
         &mut Scrambler::new(Role::Master, 32767)?,
         &MASTER_FROM_32767,
-    );
-    starts(
-        &rt,
-        &mut Scrambler::new(Role::Slave, 10922)?,
-        &SLAVE_FROM_10922,
-    );
-    starts(&rt, &mut Silent, &[0; 6]);
-    Ok(())
+    )?;
+    starts(&mut Scrambler::new(Role::Slave, 10922)?, &SLAVE_FROM_10922)?;
+    starts(&mut Silent, &[0; 6])
 }
 
 #[test]
