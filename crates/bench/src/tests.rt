@@ -2,7 +2,7 @@
 use crate::standard_bench;
 use std::test::Fail;
 
-/// A send of zeros with symbol 0, a hit at place 0 with 2, and a receive.
+/// A frame of zeros goes out, its first line symbol is turned into 1, and receiving it repairs that one group.
 #[test]
 fn one_hit_is_repaired(rt: HostRuntime) -> Result<(), Fail> {
     let mut octets = [0u8; 917];
