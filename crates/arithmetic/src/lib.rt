@@ -5,6 +5,7 @@ ghost use Rattle.std.specs.Prelude.{◌≡◌, ℕ, ◌<◌};
 ghost use Rattle.arithmetic.specs.Laws.{Operations, Lawful, elements};
 
 mod agreement;
+mod polynomials;
 mod shifting;
 mod tabled;
 mod tables;

@@ -1,19 +1,12 @@
-//! An arithmetic that works each answer out: numbers are polynomials over two elements, modulo x⁹ + x⁴ + 1.
-ghost use Rattle.std.specs.Prelude.{◌≡◌};
-ghost use Rattle.arithmetic.specs.Polynomials.{polynomials, twice};
+//! An arithmetic that works each answer out.
+ghost use Rattle.arithmetic.specs.Polynomials.{polynomials};
 ghost use Rattle.arithmetic.specs.Inverses.{polynomials_lawful};
 
+use crate::polynomials::{double, sum};
 use crate::{ALPHA, Arithmetic, ELEMENTS};
 
-/// x times a. Bit 8 moves to x⁹, which is x⁴ + 1; without a branch, so that products of many numbers run side by side.
-pub(crate) fn double(a: u16) -> u16
-    ensures value { result ≡ twice a }
-{
-    (a % 256 * 2) ^ (a / 256 % 2 * 17)
-}
-
 /// Works each answer out, and stores nothing.
-#[derive(Clone, Copy)]
+#[derive(Clone, Copy, Debug)]
 pub struct Shifting;
 
 impl Arithmetic for Shifting {
@@ -22,7 +15,7 @@ impl Arithmetic for Shifting {
     ghost lawful = { λ s. polynomials_lawful };
 
     fn sum(&self, a: u16, b: u16) -> u16 {
-        a % ELEMENTS ^ b % ELEMENTS
+        sum(a, b)
     }
 
     fn product(&self, a: u16, b: u16) -> u16 {

@@ -4,6 +4,7 @@ ghost use Rattle.arithmetic.specs.Laws.{power as raised};
 ghost use Rattle.arithmetic.specs.Polynomials.{polynomials};
 ghost use Rattle.arithmetic.specs.Inverses.{polynomials_lawful};
 
+use crate::polynomials::sum;
 use crate::tables::tables;
 use crate::{ALPHA, Arithmetic, ELEMENTS, ROUND};
 
@@ -34,7 +35,7 @@ fn wrapped(k: u16) -> u16
 }
 
 /// Looks each answer up.
-#[derive(Clone, Copy)]
+#[derive(Clone, Copy, Debug)]
 pub struct Tabled;
 
 impl Arithmetic for Tabled {
@@ -43,7 +44,7 @@ impl Arithmetic for Tabled {
     ghost lawful = { λ s. polynomials_lawful };
 
     fn sum(&self, a: u16, b: u16) -> u16 {
-        a % ELEMENTS ^ b % ELEMENTS
+        sum(a, b)
     }
 
     fn product(&self, a: u16, b: u16) -> u16 {

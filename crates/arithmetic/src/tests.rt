@@ -1,48 +1,33 @@
 //! Values that can be worked out by hand, by both arithmetics.
 use super::*;
 
+/// The powers 9 and 14 of α, and the inverse of 2.
+fn products_and_an_inverse<A: Arithmetic>(a: &A) -> [u16; 3] {
+    [a.product(256, 2), a.product(272, 2), a.inverse(2)]
+}
+
+fn answers_to_large_arguments<A: Arithmetic>(a: &A) -> [u16; 3] {
+    [a.sum(517, 3), a.product(1280, 514), a.inverse(65026)]
+}
+
+fn inverses_of_zero<A: Arithmetic>(a: &A) -> [u16; 2] {
+    [a.inverse(0), a.inverse(512)]
+}
+
 #[test]
 fn products_and_inverses(rt: HostRuntime) {
-    assert_eq!(rt;
-        [
-            Tabled.product(256, 2),
-            Tabled.product(272, 2),
-            Tabled.inverse(2),
-        ],
-        [17, 49, 264]
-    );
-    assert_eq!(rt;
-        [
-            Shifting.product(256, 2),
-            Shifting.product(272, 2),
-            Shifting.inverse(2),
-        ],
-        [17, 49, 264]
-    );
+    assert_eq!(rt; products_and_an_inverse(&Tabled), [17, 49, 264]);
+    assert_eq!(rt; products_and_an_inverse(&Shifting), [17, 49, 264]);
 }
 
 #[test]
 fn arguments_above_511(rt: HostRuntime) {
-    assert_eq!(rt;
-        [
-            Tabled.sum(517, 3),
-            Tabled.product(1280, 514),
-            Tabled.inverse(65026),
-        ],
-        [6, 17, 264]
-    );
-    assert_eq!(rt;
-        [
-            Shifting.sum(517, 3),
-            Shifting.product(1280, 514),
-            Shifting.inverse(65026),
-        ],
-        [6, 17, 264]
-    );
+    assert_eq!(rt; answers_to_large_arguments(&Tabled), [6, 17, 264]);
+    assert_eq!(rt; answers_to_large_arguments(&Shifting), [6, 17, 264]);
 }
 
 #[test]
 fn inverse_of_zero(rt: HostRuntime) {
-    assert_eq!(rt; [Tabled.inverse(0), Tabled.inverse(512)], [0, 0]);
-    assert_eq!(rt; [Shifting.inverse(0), Shifting.inverse(512)], [0, 0]);
+    assert_eq!(rt; inverses_of_zero(&Tabled), [0, 0]);
+    assert_eq!(rt; inverses_of_zero(&Shifting), [0, 0]);
 }

@@ -1,4 +1,8 @@
 //! The layers, and a refusal.
+ghost use Rattle.std.specs.Prelude.{◌≡◌};
+ghost use Rattle.refusal.specs.Refusals.{refusal};
+
+use std::fmt;
 
 /// The part of the codec that refuses.
 #[derive(Clone, Copy, PartialEq, Eq, Debug)]
@@ -18,4 +22,41 @@ pub struct Refusal {
     pub number: u8,
     pub layer: Layer,
     pub place: usize,
+}
+
+impl Refusal {
+    /// The refusal with this number, in this layer, at this place.
+    pub fn new(number: u8, layer: Layer, place: usize) -> Refusal
+        ensures says_just_that { result ≡ refusal number layer place }
+    {
+        Refusal {
+            number,
+            layer,
+            place,
+        }
+    }
+}
+
+impl fmt::Display for Layer {
+    fn fmt<W: fmt::Write>(&self, f: &mut fmt::Formatter<W>) -> fmt::Result {
+        f.write_str(match self {
+            Layer::Making => "making",
+            Layer::End => "end",
+            Layer::Block => "block",
+            Layer::Line => "line",
+            Layer::Code => "code",
+            Layer::Cycle => "cycle",
+            Layer::Bench => "bench",
+        })
+    }
+}
+
+impl fmt::Display for Refusal {
+    fn fmt<W: fmt::Write>(&self, f: &mut fmt::Formatter<W>) -> fmt::Result {
+        write!(
+            f,
+            "refused with {}, layer {}, place {}",
+            self.number, self.layer, self.place
+        )
+    }
 }

@@ -1,7 +1,7 @@
 use Rattle.std.proofs.Common.{refl}
 use Rattle.arithmetic.specs.Polynomials.{sum}
 use Rattle.arithmetic.specs.Algebra.{sum_below}
-use Rattle.arithmetic.proofs.shifting.ShiftingArithmetic.sum.Goals as goal
+use Rattle.arithmetic.proofs.polynomials.sum.Goals as goal
 
 pub returns : goal.returns
 unfolding sum
