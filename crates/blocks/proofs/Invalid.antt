@@ -1,11 +1,11 @@
 -- A reading that fails, fails at the first invalid field.
-use Rattle.std.proofs.Common.{◌≡◌, ℕ, zero, suc, ◌+◌, ◌-◌, ◌*◌, ◌/◌, ◌%◌, ◌<◌, ◌≤◌, Bool, true, false, cond, eqb, ltb, ◌⊎◌, List, [], ◌∷◌, reverse, length, get_or, take, drop, Some, None, Ok, Err, Option, Result, sym, refl, ap, ◌∙◌, subst, inl, inr, suc-le-suc, zero-le, arith}
+use Rattle.std.proofs.Common.{◌≡◌, ℕ, zero, suc, ◌+◌, ◌-◌, ◌*◌, ◌/◌, ◌%◌, ◌<◌, ◌≤◌, Bool, true, false, cond, eqb, ltb, ◌⊎◌, List, [], ◌∷◌, map, reverse, length, get_or, take, drop, Some, None, Ok, Err, Option, Result, MatchResult, sym, refl, ap, ◌∙◌, subst, inl, inr, suc-le-suc, zero-le, arith}
 use Rattle.std.proofs.lemmas.List.{drop-drop}
 use Rattle.std.proofs.lemmas.Bool.{ltb-false, lt-ltb, eqb-true, eqb-false, both_ways}
 use Rattle.blocks.specs.Characters as characters
 use Rattle.blocks.specs.Faults.{block_refusal}
 use Rattle.blocks.specs.Bits.{bits, number, unpacked}
-use Rattle.blocks.specs.Blocks.{reserved_code, pointer, header, position, more, from_code, coded, ValidPointer, InvalidFrom, pointer_invalid, code_invalid, later, InvalidField, header_invalid, field_invalid, Encodes, ReadRefused}
+use Rattle.blocks.specs.Blocks.{reserved_code, pointer, header, position, more, from_code, coded, ValidPointer, InvalidFrom, pointer_invalid, code_invalid, later, InvalidField, header_invalid, field_invalid, Encodes, EncodesOnly, EncodesNone}
 use Rattle.blocks.specs.Steps.{turned, is_character, control_read, valid, before_all, onward, started, reading}
 use Rattle.blocks.specs.declared.faults.BlockFault.{BlockFault}
 use Rattle.blocks.specs.declared.faults.BlockFault.TheVariants.{InvalidPointer, ReservedCode}
@@ -192,30 +192,37 @@ none_headed block ds h d =
 abbrev pub Octets : List ℕ → Type 0
 Octets bs = (k : ℕ) → get_or bs k 0 < 256
 
-pub refused : (block cs : List ℕ) (first : Ahead) (e : BlockFault) → length block ≡ 11 → length cs ≡ 10 → Octets block → get_or block 0 0 < 2 → first ≡ starts (get_or block 0 0) → Err e ≡ reading first 0 (drop 1 block) → ReadRefused block cs (block_refusal e)
-refused [] cs first e h k o l f r = absurd (omega arith)
-refused (b ∷ bs) cs first e h k o l f r =
-    let s : reading (starts b) 0 bs ≡ Err e = sym (r ∙ ap (λ a. reading a 0 bs) f) in
-    ReadRefused.invalid_field h k (invalid_field b bs e l (omega arith) (λ i _. o (suc i)) s) (λ ds d. none_read (b ∷ bs) ds e s d)
+abbrev pub Refused : List ℕ → BlockFault → Type 0
+Refused block e = InvalidField block (block_refusal e) × EncodesNone block
 
-pub encoded : (block cs : List ℕ) (first : Ahead) → length block ≡ 11 → Octets block → get_or block 0 0 < 2 → first ≡ starts (get_or block 0 0) → Ok cs ≡ reading first 0 (drop 1 block) → Encodes block cs × ((others : List ℕ) → Encodes block others → others ≡ cs)
+pub refused : (block : List ℕ) (first : Ahead) (e : BlockFault) → length block ≡ 11 → Octets block → get_or block 0 0 < 2 → first ≡ starts (get_or block 0 0) → Err e ≡ reading first 0 (drop 1 block) → Refused block e
+refused [] first e h o l f r = absurd (omega arith)
+refused (b ∷ bs) first e h o l f r =
+    let s : reading (starts b) 0 bs ≡ Err e = sym (r ∙ ap (λ a. reading a 0 bs) f) in
+    (invalid_field b bs e l (omega arith) (λ i _. o (suc i)) s, λ ds d. none_read (b ∷ bs) ds e s d)
+
+pub encoded : (block cs : List ℕ) (first : Ahead) → length block ≡ 11 → Octets block → get_or block 0 0 < 2 → first ≡ starts (get_or block 0 0) → Ok cs ≡ reading first 0 (drop 1 block) → EncodesOnly block cs
 encoded [] cs first h o l f r = absurd (omega arith)
 encoded (b ∷ bs) cs first h o l f r =
     let s : reading (starts b) 0 bs ≡ Ok cs = sym (r ∙ ap (λ a. reading a 0 bs) f) in
     (makes_block b bs cs l (omega arith) (λ i _. o (suc i)) s, λ ds d. only_those (b ∷ bs) cs ds s d)
 
+pub decoded : {U A : Type 0} (number_of : A → ℕ) (block payload : List ℕ) (first : Ahead) (ten : List A) (r : Result U BlockFault) → length block ≡ 11 → Octets block → get_or block 0 0 < 2 → first ≡ starts (get_or block 0 0) → payload ≡ drop 1 block → MatchResult r (λ _. reading first 0 payload ≡ Ok (map number_of ten)) (λ e. reading first 0 payload ≡ Err e) → MatchResult r (λ _. EncodesOnly block (map number_of ten)) (Refused block)
+decoded number_of block payload first ten (Ok x) h o l f p e = encoded block (map number_of ten) first h o l f (sym e ∙ ap (reading first 0) p)
+decoded number_of block payload first ten (Err e) h o l f p s = refused block first e h o l f (sym s ∙ ap (reading first 0) p)
+
 -- what the header says
 
-head_invalid : (block cs : List ℕ) (h : ℕ) (e : BlockFault) → h ≡ get_or block 0 0 → length block ≡ 11 → length cs ≡ 10 → Err e ≡ started h → ReadRefused block cs (block_refusal e)
-head_invalid block cs zero e g l k s = let z : ◌≡◌ {A = ℕ} 0 1 = cc in absurd (omega arith)
-head_invalid block cs (suc zero) e g l k s = let z : ◌≡◌ {A = ℕ} 0 1 = cc in absurd (omega arith)
-head_invalid block cs (suc (suc h)) e g l k s =
+header_refused : (block : List ℕ) (h : ℕ) (e : BlockFault) → h ≡ get_or block 0 0 → Err e ≡ started h → Refused block e
+header_refused block zero e g s = let z : ◌≡◌ {A = ℕ} 0 1 = cc in absurd (omega arith)
+header_refused block (suc zero) e g s = let z : ◌≡◌ {A = ℕ} 0 1 = cc in absurd (omega arith)
+header_refused block (suc (suc h)) e g s =
     let big : 1 < get_or block 0 0 = omega arith in
     let f : InvalidPointer zero ≡ e = cc in
-    subst (λ x. ReadRefused block cs (block_refusal x)) f (ReadRefused.invalid_field l k (header_invalid big) (λ ds d. none_headed block ds big d))
+    subst (Refused block) f (header_invalid big, λ ds d. none_headed block ds big d)
 
-pub head_refused : (block cs : List ℕ) (e : BlockFault) → length block ≡ 11 → length cs ≡ 10 → Err e ≡ started (get_or block 0 0) → ReadRefused block cs (block_refusal e)
-head_refused block cs e l k s = head_invalid block cs (get_or block 0 0) e refl l k s
+pub head_refused : (block : List ℕ) (e : BlockFault) → Err e ≡ started (get_or block 0 0) → Refused block e
+head_refused block e s = header_refused block (get_or block 0 0) e refl s
 
 pub started_well : (h : ℕ) (first : Ahead) → Ok first ≡ started h → (h < 2) × (first ≡ starts h)
 started_well zero first s = (omega arith, cc)

@@ -46,13 +46,6 @@ code_back c h = ap (λ x. 256 + x) (turned_back (c % 8) (omega arith)) ∙ omega
 
 -- what an octet holds
 
-pub top_small : (c : ℕ) → top c < 8
-top_small c = go (is_control c) refl
-  where
-    go : (b : Bool) → is_control c ≡ b → top c < 8
-    go true f = rw f (turned_small (c % 8) (omega arith))
-    go false f = rw f (omega arith)
-
 low_small : (before n p : ℕ) → Points n p → cond (is_control before) p (before / 8) < 32
 low_small before n p h = go (is_control before) refl
   where

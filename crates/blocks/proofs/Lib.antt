@@ -6,3 +6,4 @@ pub mod WriteLoop
 pub mod ReadLoop
 pub mod WorkedBlocks
 pub mod NeverBoth
+pub mod Numbers

@@ -1,6 +1,6 @@
 -- The reader's loop.
-use Rattle.std.proofs.Common.{◌≡◌, ℕ, ◌+◌, ◌<◌, ◌≤◌, List, [], ◌∷◌, ◌++◌, length, get_or, take, drop, set, Ok, Err, Result, sym, refl, ap, ◌∙◌, append_assoc, append-nil, arith, length-set}
-use Rattle.std.proofs.lemmas.List.{drop_more, drop_all, take_all, take_more_set, get_or-drop}
+use Rattle.std.proofs.Common.{◌≡◌, ℕ, ◌+◌, ◌<◌, List, [], ◌∷◌, ◌++◌, map, length, get_or, take, drop, set, Ok, Err, Result, sym, refl, ap, ◌∙◌, append_assoc, append-nil, arith, length-set}
+use Rattle.std.proofs.lemmas.List.{drop_more, drop_all, take_all, take_more_set, get_or-drop, length-map, map-set}
 use Rattle.blocks.specs.Steps.{stepped, before_all, onward, reading}
 use Rattle.blocks.specs.declared.faults.BlockFault.{BlockFault}
 use Rattle.blocks.specs.declared.ahead.Ahead.{Ahead}
@@ -9,44 +9,50 @@ abbrev pub after_all : List ℕ → Result (List ℕ) BlockFault → Result (Lis
 after_all cs (Ok ds) = Ok (cs ++ ds)
 after_all cs (Err e) = Err e
 
-abbrev pub ReadSoFar : Ahead → Ahead → ℕ → List ℕ → List ℕ → Type 0
-ReadSoFar first ahead k read block = (length read ≡ 10) × (after_all (take k read) (reading ahead k (drop (k + 1) block)) ≡ reading first 0 (drop 1 block))
+-- the first k characters read, and what is read from octet k on, make the whole
+pub record ReadSoFar {A : Type 0} (number : A → ℕ) (first ahead : Ahead) (k : ℕ) (read : List A) (bs : List ℕ) : Type 0 where
+  pub ten : length read ≡ 10
+  pub whole : after_all (take k (map number read)) (reading ahead k (drop k bs)) ≡ reading first 0 bs
 
-pub read_none : (first : Ahead) (read block : List ℕ) → length read ≡ 10 → ReadSoFar first first 0 read block
-read_none first read block h = (h, go (reading first 0 (drop 1 block)))
+pub read_none : {A : Type 0} (number : A → ℕ) (first : Ahead) (read : List A) (bs : List ℕ) → length read ≡ 10 → ReadSoFar number first first 0 read bs
+read_none number first read bs h = record { ten = h; whole = go (reading first 0 bs) }
   where
     go : (r : Result (List ℕ) BlockFault) → after_all [] r ≡ r
     go (Ok ds) = refl
     go (Err e) = refl
 
-pub next_is : (block : List ℕ) (k : ℕ) → get_or (drop (k + 1 + 1) block) 0 0 ≡ get_or block (k + 2) 0
-next_is block k = get_or-drop (k + 1 + 1) block 0 0 ∙ ap (λ n. get_or block n 0) (omega arith)
-
-pub reading_more : (ahead : Ahead) (k next : ℕ) (block : List ℕ) → length block ≡ 11 → k < 10 → next ≡ get_or (drop (k + 1 + 1) block) 0 0 → reading ahead k (drop (k + 1) block) ≡ onward (stepped ahead k (get_or block (k + 1) 0) next) (λ after. reading after (k + 1) (drop (k + 1 + 1) block))
+reading_more : (ahead : Ahead) (k next : ℕ) (bs : List ℕ) → k < length bs → next ≡ get_or bs (k + 1) 0 → reading ahead k (drop k bs) ≡ onward (stepped ahead k (get_or bs k 0) next) (λ after. reading after (k + 1) (drop (k + 1) bs))
 unfolding reading
-reading_more ahead k next block h l e = rw (drop_more block (k + 1) 0 (omega arith), e)
-
-pub next_far : (block : List ℕ) (k : ℕ) → length block ≡ 11 → 9 ≤ k → 0 ≡ get_or (drop (k + 1 + 1) block) 0 0
-next_far block k h l = sym (ap (λ l. get_or l 0 0) (drop_all (k + 1 + 1) block (omega arith)))
+reading_more ahead k next bs h e =
+    let n : get_or (drop (k + 1) bs) 0 0 ≡ next = get_or-drop (k + 1) bs 0 0 ∙ ap (λ n. get_or bs n 0) (omega arith) ∙ sym e in
+    rw (drop_more bs k 0 h, n) refl
 
 joined : (cs : List ℕ) (c : ℕ) (r : Result (List ℕ) BlockFault) → after_all (cs ++ (c ∷ [])) r ≡ after_all cs (before_all c r)
 joined cs c (Ok ds) = ap Ok (append_assoc cs (c ∷ []) ds)
 joined cs c (Err e) = refl
 
-pub read_more : (first ahead after : Ahead) (k next c : ℕ) (read block : List ℕ) → length block ≡ 11 → k < 10 → next ≡ get_or (drop (k + 1 + 1) block) 0 0 → stepped ahead k (get_or block (k + 1) 0) next ≡ Ok (c, after) → ReadSoFar first ahead k read block → ReadSoFar first after (k + 1) (set read k c) block
-read_more first ahead after k next c read block h l e s (n, r) = (
-  length-set read k c ∙ n,
-  ap (λ l. after_all l (reading after (k + 1) (drop (k + 1 + 1) block))) (take_more_set read k c (omega arith))
-      ∙ joined (take k read) c (reading after (k + 1) (drop (k + 1 + 1) block))
-      ∙ ap (after_all (take k read)) (sym (reading_more ahead k next block h l e ∙ ap (λ x. onward x (λ a. reading a (k + 1) (drop (k + 1 + 1) block))) s))
-      ∙ r,
-)
+pub read_more : {A : Type 0} (number : A → ℕ) (first ahead after : Ahead) (k next n : ℕ) (c : A) (read : List A) (bs : List ℕ) → length bs ≡ 10 → k < 10 → next ≡ get_or bs (k + 1) 0 → Ok (n, after) ≡ stepped ahead k (get_or bs k 0) next → number c ≡ n → ReadSoFar number first ahead k read bs → ReadSoFar number first after (k + 1) (set read k c) bs
+read_more number first ahead after k next n c read bs h l e s w r =
+    let t = r.ten in
+    let m = length-map read number in
+    record {
+      ten = length-set read k c ∙ r.ten;
+      whole =
+          ap (λ l. after_all (take (k + 1) l) (reading after (k + 1) (drop (k + 1) bs))) (map-set number read k c)
+          ∙ ap (λ l. after_all l (reading after (k + 1) (drop (k + 1) bs))) (take_more_set (map number read) k (number c) (omega arith))
+          ∙ ap (λ m. after_all (take k (map number read) ++ (m ∷ [])) (reading after (k + 1) (drop (k + 1) bs))) w
+          ∙ joined (take k (map number read)) n (reading after (k + 1) (drop (k + 1) bs))
+          ∙ ap (after_all (take k (map number read))) (sym (reading_more ahead k next bs (omega arith) e ∙ ap (λ x. onward x (λ a. reading a (k + 1) (drop (k + 1) bs))) (sym s)))
+          ∙ r.whole;
+    }
 
-pub read_stop : (first ahead : Ahead) (k next : ℕ) (e : BlockFault) (read block : List ℕ) → length block ≡ 11 → k < 10 → next ≡ get_or (drop (k + 1 + 1) block) 0 0 → stepped ahead k (get_or block (k + 1) 0) next ≡ Err e → ReadSoFar first ahead k read block → Err e ≡ reading first 0 (drop 1 block)
-read_stop first ahead k next e read block h l n s (m, r) =
-    sym (ap (after_all (take k read)) (reading_more ahead k next block h l n ∙ ap (λ x. onward x (λ a. reading a (k + 1) (drop (k + 1 + 1) block))) s)) ∙ r
+pub read_stop : {A : Type 0} (number : A → ℕ) (first ahead : Ahead) (k next : ℕ) (e : BlockFault) (read : List A) (bs : List ℕ) → length bs ≡ 10 → k < 10 → next ≡ get_or bs (k + 1) 0 → Err e ≡ stepped ahead k (get_or bs k 0) next → ReadSoFar number first ahead k read bs → reading first 0 bs ≡ Err e
+read_stop number first ahead k next e read bs h l n s r =
+    sym r.whole ∙ ap (after_all (take k (map number read))) (reading_more ahead k next bs (omega arith) n ∙ ap (λ x. onward x (λ a. reading a (k + 1) (drop (k + 1) bs))) (sym s))
 
-pub read_all : (first ahead : Ahead) (k : ℕ) (read block : List ℕ) → length block ≡ 11 → k ≡ 10 → ReadSoFar first ahead k read block → Ok read ≡ reading first 0 (drop 1 block)
+pub read_all : {A : Type 0} (number : A → ℕ) (first ahead : Ahead) (k : ℕ) (read : List A) (bs : List ℕ) → length bs ≡ 10 → k ≡ 10 → ReadSoFar number first ahead k read bs → reading first 0 bs ≡ Ok (map number read)
 unfolding reading
-read_all first ahead k read block h l (n, r) =
-    sym (ap (λ x. after_all (take k read) (reading ahead k x)) (drop_all (k + 1) block (omega arith)) ∙ ap Ok (append-nil (take k read) ∙ take_all k read (omega arith))) ∙ r
+read_all number first ahead k read bs h l r =
+    let t = r.ten in
+    let m = length-map read number in
+    sym r.whole ∙ ap (λ x. after_all (take k (map number read)) (reading ahead k x)) (drop_all k bs (omega arith)) ∙ ap Ok (append-nil (take k (map number read)) ∙ take_all k (map number read) (omega arith))

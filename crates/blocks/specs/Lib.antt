@@ -1,7 +1,9 @@
 pub mod Bits
 pub mod Characters
+pub mod Numbers
 pub mod Faults
 pub mod Blocks
 pub mod Steps
 pub mod Cycles
+pub mod Texts
 pub mod Worked

@@ -2,6 +2,8 @@
 use Rattle.std.specs.Prelude.{ℕ, zero, suc, ◌+◌, ◌*◌, ◌/◌, ◌%◌, Bool, cond, not, ◌&&◌, ◌||◌, List, [], ◌∷◌, Some, None, Ok, Err, Option, Result, ◌==◌, nat_le, nat_lt, slice_index}
 use Rattle.blocks.specs.Characters.{is_control}
 use Rattle.blocks.specs.Blocks.{pointer}
+use Rattle.blocks.specs.Numbers.{number_of}
+use Rattle.blocks.specs.declared.character.Character.{Character}
 use Rattle.blocks.specs.declared.faults.BlockFault.{BlockFault}
 use Rattle.blocks.specs.declared.faults.BlockFault.TheVariants.{InvalidPointer, ReservedCode}
 use Rattle.blocks.specs.declared.ahead.Ahead.{Ahead}
@@ -60,3 +62,8 @@ started (suc (suc h)) = Err (InvalidPointer zero)
 unfoldable pub reading : Ahead → ℕ → List ℕ → Result (List ℕ) BlockFault
 reading a k [] = Ok []
 reading a k (b ∷ bs) = onward (stepped a k b (slice_index bs 0)) (λ after. reading after (k + 1) bs)
+
+-- the same with a character as a value
+abbrev pub by_number : Result (Character × Ahead) BlockFault → Result (ℕ × Ahead) BlockFault
+by_number (Ok r) = Ok (number_of r.0, r.1)
+by_number (Err e) = Err e

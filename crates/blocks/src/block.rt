@@ -1,90 +1,87 @@
 //! Blocks of ten characters.
-ghost use Rattle.std.specs.Prelude.{◌≡◌, ℕ, ◌+◌, ◌-◌, ◌*◌, ◌/◌, ◌%◌, ◌<◌, ◌≤◌, List, ◌∷◌, length, drop, IfErr, Some, None, Ok, Err, MatchOption, MatchResult, OnOk, slice_index};
-ghost use Rattle.blocks.specs.Characters.{Characters};
+ghost use Rattle.std.specs.Prelude.{◌≡◌, ℕ, ◌+◌, ◌<◌, ◌≤◌, List, ◌∷◌, length, map, IfErr, Ok, Err, MatchOption, MatchResult, OnOk, slice_index};
+ghost use Rattle.blocks.specs.Characters as numbers;
+ghost use Rattle.blocks.specs.Numbers.{number_of};
 ghost use Rattle.blocks.specs.Faults.{block_refusal};
-ghost use Rattle.blocks.specs.Blocks.{block_of, led, Encodes, WriteRefused, ReadRefused};
-ghost use Rattle.blocks.specs.Steps.{turned, octet as octet_of, stepped, started, read_at as read_from, reading};
+ghost use Rattle.blocks.specs.Blocks.{led, Encodes, EncodesOnly, EncodesNone, InvalidField, WriteRefused, ReadRefused};
+ghost use Rattle.blocks.specs.Steps.{turned, octet as octet_of, stepped, started, read_at as read_from, reading, by_number};
 
 use crate::ahead::Ahead;
-use crate::character::{first_no_character, is_character};
+use crate::character::{Character, Control, parse};
 use crate::faults::BlockFault;
 
-/// Three bits in the other order.
+/// Three bits in the other order; `reverse_bits` turns eight, and five would have to be dropped again.
 fn turn(three: u8) -> u8
-    requires { three < 8 }
     ensures { result ≡ turned three }
 {
     4 * (three % 2) + 2 * (three / 2 % 2) + three / 4
 }
 
 /// The pointer from octet `k` on, of which `later` is the one from the next octet on.
-fn lead(k: u8, c: u16, later: Option<u8>) -> Option<u8>
+fn lead(k: u8, c: Character, later: Option<u8>) -> Option<u8>
     requires { k < 16 }
-    ensures { result ≡ led k c later }
+    ensures pointer { result ≡ led k (number_of c) later }
+    ensures of_a_character { numbers.Character (number_of c) }
 {
-    if c > 255 {
-        match later {
-            Some(_) => Some(k + 16),
-            None => Some(k),
-        }
-    } else {
-        later
+    match (c, later) {
+        (Character::Data(_), later) => later,
+        (Character::Control(_), None) => Some(k),
+        (Character::Control(_), Some(_)) => Some(k + 16),
     }
 }
 
 /// A payload octet, where `pointer` is the one from this octet on: its low five bits are the pointer after a control
 /// and the rest of the octet before otherwise.
-fn octet(before: u16, pointer: Option<u8>, c: u16) -> u8
-    requires { MatchOption pointer (c < 256) (λ p. p < 32) }
-    ensures { result ≡ octet_of before pointer c }
+fn octet(before: Character, pointer: Option<u8>, c: Character) -> u8
+    requires { MatchOption pointer (number_of c < 256) (λ p. p < 32) }
+    ensures { result ≡ octet_of (number_of before) pointer (number_of c) }
 {
-    match pointer {
-        None => c as u8,
-        Some(pointer) => {
-            let low = if before > 255 {
-                pointer
-            } else {
-                (before / 8) as u8
-            };
-            let three = (c % 8) as u8;
-            let high = if c > 255 { turn(three) } else { three };
-            low + 32 * high
-        }
-    }
+    let Some(pointer) = pointer else {
+        let Character::Data(octet) = c else {
+            unreachable!()
+        };
+        return octet;
+    };
+    let low = match before {
+        Character::Data(octet) => octet / 8,
+        Character::Control(_) => pointer,
+    };
+    let high = match c {
+        Character::Data(octet) => octet % 8,
+        Character::Control(control) => turn(control.code()),
+    };
+    low + 32 * high
 }
 
 /// The character of an octet before or at the control that `pointer` names.
-fn read_at(pointer: u8, k: usize, octet: u8, next: u8) -> Result<(u16, Ahead), BlockFault>
-    ensures { result ≡ read_from pointer k octet next }
+fn read_at(pointer: u8, k: usize, octet: u8, next: u8) -> Result<(Character, Ahead), BlockFault>
+    ensures { by_number result ≡ read_from pointer k octet next }
 {
-    if (pointer % 16) as usize == k {
-        let c = 256 + turn(octet / 32) as u16;
-        if is_character(c) {
-            let after = if pointer < 16 {
-                Ahead::Nothing
-            } else {
-                Ahead::Pointer
-            };
-            Ok((c, after))
-        } else {
-            Err(BlockFault::ReservedCode { octet: k })
-        }
-    } else {
-        let c = (octet / 32) as u16 + 8 * (next % 32) as u16;
-        Ok((c, Ahead::Control { pointer }))
+    if usize::from(pointer % 16) != k {
+        let rest = octet / 32 + 8 * (next % 32);
+        return Ok((Character::Data(rest), Ahead::Control { pointer }));
     }
+    let Ok(control) = Control::try_from(turn(octet / 32)) else {
+        return Err(BlockFault::ReservedCode { octet: k });
+    };
+    let after = if pointer < 16 {
+        Ahead::Nothing
+    } else {
+        Ahead::Pointer
+    };
+    Ok((Character::Control(control), after))
 }
 
 /// The character of octet `k`, and what is waited for after it.
-fn step(ahead: Ahead, k: usize, octet: u8, next: u8) -> Result<(u16, Ahead), BlockFault>
-    ensures { result ≡ stepped ahead k octet next }
+fn step(ahead: Ahead, k: usize, octet: u8, next: u8) -> Result<(Character, Ahead), BlockFault>
+    ensures { by_number result ≡ stepped ahead k octet next }
 {
     match ahead {
-        Ahead::Nothing => Ok((octet as u16, Ahead::Nothing)),
+        Ahead::Nothing => Ok((Character::Data(octet), Ahead::Nothing)),
         Ahead::Control { pointer } => read_at(pointer, k, octet, next),
         Ahead::Pointer => {
             let pointer = octet % 32;
-            let position = (pointer % 16) as usize;
+            let position = usize::from(pointer % 16);
             if k <= position && position < 10 && pointer != 25 {
                 read_at(pointer, k, octet, next)
             } else {
@@ -95,29 +92,37 @@ fn step(ahead: Ahead, k: usize, octet: u8, next: u8) -> Result<(u16, Ahead), Blo
 }
 
 /// The character before octet `k`; octet 0 is as after a control, since a pointer is due there.
-fn preceding(characters: &[u16], k: usize) -> u16
-    requires { k ≤ length characters.now }
-    ensures { result ≡ slice_index (256 ∷ characters.now) k }
+fn preceding(characters: &[Character; 10], k: usize) -> Character
+    requires { k ≤ 10 }
+    ensures { number_of result ≡ slice_index (256 ∷ map number_of characters.now) k }
 {
-    if k == 0 { 256 } else { characters[k - 1] }
+    match characters[..k].last() {
+        Some(before) => *before,
+        None => Character::Control(Control::NotReady),
+    }
 }
 
-/// Writes the payload from its last octet on, and then the header.
-fn fill(characters: &[u16], block: &mut [u8])
-    requires { (length characters.now ≡ 10) × ((length block.old ≡ 11) × (Characters characters.now)) }
-    ensures { block.new ≡ block_of characters.now }
+/// Writes the block of ten characters: its payload from the last octet on, and then its header.
+// No `&mut [u8; 11]`: a refused `try_from` of the caller's buffer says nothing of it, and `write_block` wasn't proved.
+fn fill(characters: &[Character; 10], block: &mut [u8])
+    requires { length block.old ≡ 11 }
+    ensures { Encodes block.new (map number_of characters.now) }
 {
     let mut pointer = None;
-    for k in (0..10usize).rev() {
-        let c = characters[k];
-        let before = preceding(characters, k);
-        pointer = lead(k as u8, c, pointer);
-        block[k + 1] = octet(before, pointer, c);
+    for (k, c) in characters.iter().enumerate().rev() {
+        pointer = lead(k as u8, *c, pointer);
+        block[k + 1] = octet(preceding(characters, k), pointer, *c);
     }
-    block[0] = match pointer {
-        None => 0,
-        Some(_) => 1,
-    };
+    block[0] = u8::from(pointer.is_some());
+}
+
+/// The block of ten characters.
+pub fn encode(characters: &[Character; 10]) -> [u8; 11]
+    ensures block_they_make { Encodes result (map number_of characters.now) }
+{
+    let mut block = [0; 11];
+    fill(characters, &mut block);
+    block
 }
 
 /// Writes the block of ten characters. A refusal leaves the block as it was.
@@ -125,16 +130,14 @@ pub fn write_block(characters: &[u16], block: &mut [u8]) -> Result<(), BlockFaul
     ensures block_they_make_or_refused { MatchResult result (λ _. Encodes block.new characters.now) (λ e. WriteRefused characters.now block.old (block_refusal e)) }
     ensures refusal_writes_nothing { IfErr result (λ e. block.new ≡ block.old) }
 {
-    if characters.len() != 10 {
+    let Ok(numbers) = <&[u16; 10]>::try_from(characters) else {
         return Err(BlockFault::InputLength);
-    }
+    };
     if block.len() != 11 {
         return Err(BlockFault::OutputLength);
     }
-    if let Some(place) = first_no_character(characters) {
-        return Err(BlockFault::NoCharacter { place });
-    }
-    fill(characters, block);
+    let ten = parse(numbers)?;
+    fill(&ten, block);
     Ok(())
 }
 
@@ -149,20 +152,70 @@ fn start(header: u8) -> Result<Ahead, BlockFault>
     }
 }
 
-/// The characters of a payload.
-fn read_payload(first: Ahead, block: &[u8]) -> Result<[u16; 10], BlockFault>
-    requires { length block.now ≡ 11 }
-    ensures { result ≡ reading first 0 (drop 1 block.now) }
+/// What a reader makes of a character: the character itself or its number.
+trait ReadAs: Copy {
+    ghost number: { Self → ℕ };
+
+    fn of(c: Character) -> Self
+        ensures { number result ≡ number_of c };
+}
+
+impl ReadAs for Character {
+    ghost number = { number_of };
+
+    fn of(c: Character) -> Character {
+        c
+    }
+}
+
+impl ReadAs for u16 {
+    ghost number = { λ n. n };
+
+    fn of(c: Character) -> u16 {
+        u16::from(c)
+    }
+}
+
+/// Reads the characters of a payload, where `first` is waited for at its first octet.
+// No `&[u8; 10]`: the check doesn't cover `[header, payload @ ..]` at a `&[u8; 11]`.
+fn read_payload<R: ReadAs>(
+    first: Ahead,
+    payload: &[u8],
+    ten: &mut [R; 10],
+) -> Result<(), BlockFault>
+    requires { length payload.now ≡ 10 }
+    ensures { MatchResult result
+        (λ _. reading first 0 payload.now ≡ Ok (map R.number ten.new))
+        (λ fault. reading first 0 payload.now ≡ Err fault) }
 {
-    let mut read = [0; 10];
     let mut ahead = first;
-    for k in 0..10usize {
-        let next = if k < 9 { block[k + 2] } else { 0 };
-        let (c, after) = step(ahead, k, block[k + 1], next)?;
-        read[k] = c;
+    for (k, octet) in payload.iter().enumerate() {
+        let next = payload.get(k + 1).copied().unwrap_or(0);
+        let (c, after) = step(ahead, k, *octet, next)?;
+        ten[k] = R::of(c);
         ahead = after;
     }
-    Ok(read)
+    Ok(())
+}
+
+/// Reads the ten characters of a block. A refusal may leave some of them changed.
+fn read<R: ReadAs>(block: &[u8; 11], ten: &mut [R; 10]) -> Result<(), BlockFault>
+    ensures { MatchResult result
+        (λ _. EncodesOnly block.now (map R.number ten.new))
+        (λ fault. InvalidField block.now (block_refusal fault) × EncodesNone block.now) }
+{
+    read_payload(start(block[0])?, &block[1..], ten)
+}
+
+/// The ten characters of a block.
+pub fn decode(block: &[u8; 11]) -> Result<[Character; 10], BlockFault>
+    ensures encoded_ten_or_invalid { MatchResult result
+        (λ ten. EncodesOnly block.now (map number_of ten))
+        (λ fault. InvalidField block.now (block_refusal fault) × EncodesNone block.now) }
+{
+    let mut ten = [Character::Data(0); 10];
+    read(block, &mut ten)?;
+    Ok(ten)
 }
 
 /// Writes the ten characters of a block. A refusal leaves the characters as they were.
@@ -171,14 +224,14 @@ pub fn read_block(block: &[u8], characters: &mut [u16]) -> Result<(), BlockFault
     ensures no_other_ten_make_it { OnOk result ((others : List ℕ) → Encodes block.now others → others ≡ characters.new) }
     ensures refusal_writes_nothing { IfErr result (λ e. characters.new ≡ characters.old) }
 {
-    if block.len() != 11 {
+    let Ok(block) = <&[u8; 11]>::try_from(block) else {
         return Err(BlockFault::InputLength);
-    }
+    };
     if characters.len() != 10 {
         return Err(BlockFault::OutputLength);
     }
-    let first = start(block[0])?;
-    let read = read_payload(first, block)?;
-    characters.copy_from_slice(&read);
+    let mut ten = [0u16; 10];
+    read(block, &mut ten)?;
+    characters.copy_from_slice(&ten);
     Ok(())
 }

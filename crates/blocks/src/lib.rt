@@ -5,16 +5,14 @@ mod ahead;
 mod block;
 mod character;
 mod cycle;
-mod cycles;
 mod faults;
 mod laws;
-mod refusals;
 #[cfg(test)]
 mod tests;
 
-pub use block::{read_block, write_block};
-pub use character::first_no_character;
-pub use cycle::Cycle;
-pub use cycles::{read_cycle, read_cycles};
+pub use block::{decode, encode, read_block, write_block};
+pub use character::{Character, Control, NoCharacter, NoControl, first_no_character, parse};
+pub use cycle::{Cycle, read_cycle, read_cycles};
 pub use faults::{BlockFault, CycleFault};
 pub use laws::block_laws;
+pub use refusal::Fault;

@@ -1,5 +1,5 @@
 //! Worked values.
-use crate::{BlockFault, read_block, write_block};
+use crate::{BlockFault, Character, Control, NoCharacter, read_block, write_block};
 use std::test::Fail;
 
 #[test]
@@ -70,4 +70,15 @@ fn lengths_and_characters(rt: HostRuntime) {
         Err(BlockFault::InvalidPointer { octet: 0 })
     );
     assert_eq!(rt; back, [7; 10]);
+}
+
+#[test]
+fn numbers_and_characters(rt: HostRuntime) {
+    assert_eq!(rt; Character::try_from(255u16), Ok(Character::Data(255)));
+    assert_eq!(rt;
+        Character::try_from(261u16),
+        Ok(Character::Control(Control::LowPower))
+    );
+    assert_eq!(rt; Character::try_from(259u16), Err(NoCharacter(259)));
+    assert_eq!(rt; u16::from(Character::Control(Control::Ready)), 258u16);
 }

@@ -1,7 +1,8 @@
 -- Functions that keep exclusive-or. Two of them that agree on the low nine and on the high
 -- six of fifteen bits agree on all fifteen. Assumes nothing.
-use Rattle.std.specs.Prelude.{◌≡◌, ℕ, zero, suc, ◌+◌, ◌-◌, ◌*◌, ◌/◌, ◌%◌, ◌^◌, ◌<◌, Bool, true, false, T, bit_and, bit_xor, nat_eq, refl}
-use Rattle.std.proofs.Common.{sym, ap, ap₂, ◌∙◌, subst, inl, inr, add-zero, eq-or-lt_of_le, le_of_suc-le-suc, not-suc-le-zero, arith, eqb→eq, pow_pos}
+use Rattle.std.specs.Prelude.{◌≡◌, ℕ, ◌+◌, ◌-◌, ◌*◌, ◌/◌, ◌%◌, ◌^◌, ◌<◌, Bool, true, bit_and, bit_xor, nat_eq, refl}
+use Rattle.std.proofs.Common.{sym, ap, ap₂, ◌∙◌, add-zero, arith, pow_pos}
+use Rattle.std.proofs.lemmas.Bool.{agree_below, agree_below_at, eqb-true}
 use Rattle.std.proofs.lemmas.Nat.{and_mask, xor_block, xor_mod, xor_shr, xor_comm}
 use Rattle.std.specs.Int.Bits.{xor_shifted, xor_assoc}
 
@@ -45,31 +46,13 @@ raised k = record {
       ∙ ap₂ bit_xor (add-zero (a * 2 ^ k)) (add-zero (b * 2 ^ k));
 }
 
--- ---- a test at each number below n
+-- ---- two functions compared at each number below n, which computes at a written-out n
 
-abbrev and_then : Bool → Bool → Bool
-and_then true b = b
-and_then false b = false
+abbrev pub same_below : (ℕ → ℕ) → (ℕ → ℕ) → ℕ → Bool
+same_below f g n = agree_below (λ k. nat_eq (f k) (g k)) (λ k. true) n
 
-left : (a b : Bool) → T (and_then a b) → T a
-left true b t = tt
-left false b t = t
-
-right : (a b : Bool) → T (and_then a b) → T b
-right true b t = t
-right false b t = absurd t
-
-abbrev pub each_below : (ℕ → Bool) → ℕ → Bool
-each_below f zero = true
-each_below f (suc n) = and_then (f n) (each_below f n)
-
-pub below_at : (f : ℕ → Bool) (n : ℕ) → T (each_below f n) → (k : ℕ) → k < n → T (f k)
-below_at f zero t k h = absurd (not-suc-le-zero h)
-below_at f (suc n) t k h =
-    elim (eq-or-lt_of_le (le_of_suc-le-suc h)) [
-      | inl e ↦ subst (λ (m : ℕ). T (f m)) (sym e) (left (f n) (each_below f n) t)
-      | inr l ↦ below_at f n (right (f n) (each_below f n) t) k l
-    ]
+pub same_at : (f g : ℕ → ℕ) (n : ℕ) → same_below f g n ≡ true → (k : ℕ) → k < n → f k ≡ g k
+same_at f g n e k h = eqb-true (f k) (g k) (agree_below_at (λ k. nat_eq (f k) (g k)) (λ k. true) n k e h)
 
 -- ---- agreement
 
@@ -77,18 +60,13 @@ below_at f (suc n) t k h =
 parted : (s : ℕ) → s ≡ bit_xor (s / 512 * 512) (s % 512)
 parted s = let e : s ≡ s / 512 * 512 + s % 512 = omega arith in e ∙ sym (xor_shifted (s / 512) 9 (s % 512) (omega arith))
 
-abbrev pub agree_low : (ℕ → ℕ) → (ℕ → ℕ) → Bool
-agree_low f g = each_below (λ s. nat_eq (f s) (g s)) 512
+abbrev pub AgreeOnParts : (ℕ → ℕ) → (ℕ → ℕ) → Type 0
+AgreeOnParts f g = (same_below f g 512 ≡ true) × (same_below (λ h. f (h * 512)) (λ h. g (h * 512)) 64 ≡ true)
 
-abbrev pub agree_high : (ℕ → ℕ) → (ℕ → ℕ) → Bool
-agree_high f g = each_below (λ h. nat_eq (f (h * 512)) (g (h * 512))) 64
-
-pub agree : {f g : ℕ → ℕ} → Linear f → Linear g → T (agree_low f g) → T (agree_high f g) → (s : ℕ) → s < 32768 → f s ≡ g s
-agree {f} {g} l m lows highs s bound =
+pub agree : {f g : ℕ → ℕ} → Linear f → Linear g → AgreeOnParts f g → (s : ℕ) → s < 32768 → f s ≡ g s
+agree {f} {g} l m (lows, highs) s bound =
     let h = s / 512 in
     let r = s % 512 in
-    let hb : h < 64 = omega arith in
-    let rb : r < 512 = omega arith in
-    let eh : f (h * 512) ≡ g (h * 512) = eqb→eq _ _ (below_at (λ h. nat_eq (f (h * 512)) (g (h * 512))) 64 highs h hb) in
-    let er : f r ≡ g r = eqb→eq _ _ (below_at (λ s. nat_eq (f s) (g s)) 512 lows r rb) in
+    let eh : f (h * 512) ≡ g (h * 512) = same_at (λ h. f (h * 512)) (λ h. g (h * 512)) 64 highs h (omega arith) in
+    let er : f r ≡ g r = same_at f g 512 lows r (omega arith) in
     ap f (parted s) ∙ l.keeps (h * 512) r ∙ ap₂ bit_xor eh er ∙ sym (m.keeps (h * 512) r) ∙ sym (ap g (parted s))

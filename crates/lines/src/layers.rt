@@ -3,6 +3,7 @@ ghost use Rattle.lines.specs.LineCodes.{turned, exchanged};
 ghost use Rattle.std.proofs.Common.{rules};
 
 use crate::line_code::LineCode;
+use crate::symbol::Symbol;
 
 /// Turns both signs of the code below, as swapped wires do.
 #[derive(Clone, Copy, Debug)]
@@ -17,16 +18,13 @@ impl<L: LineCode> LineCode for Turned<L> {
 
     ghost distinct = { Prim.search rules };
 
-    fn write(&self, word: u8) -> (i8, i8) {
-        let (first, second) = self.0.write(word);
+    fn write_symbols(&self, word: u8) -> (Symbol, Symbol) {
+        let (first, second) = self.0.write_symbols(word);
         (-first, -second)
     }
 
-    fn read(&self, first: i8, second: i8) -> Option<u8> {
-        if first < -1 || first > 1 || second < -1 || second > 1 {
-            return None;
-        }
-        self.0.read(-first, -second)
+    fn read_symbols(&self, first: Symbol, second: Symbol) -> Option<u8> {
+        self.0.read_symbols(-first, -second)
     }
 }
 
@@ -43,12 +41,12 @@ impl<L: LineCode> LineCode for Exchanged<L> {
 
     ghost distinct = { Prim.search rules };
 
-    fn write(&self, word: u8) -> (i8, i8) {
-        let (first, second) = self.0.write(word);
+    fn write_symbols(&self, word: u8) -> (Symbol, Symbol) {
+        let (first, second) = self.0.write_symbols(word);
         (second, first)
     }
 
-    fn read(&self, first: i8, second: i8) -> Option<u8> {
-        self.0.read(second, first)
+    fn read_symbols(&self, first: Symbol, second: Symbol) -> Option<u8> {
+        self.0.read_symbols(second, first)
     }
 }

@@ -6,7 +6,9 @@ use crate::ordered::Ordered;
 use crate::ring::Ring;
 use crate::role::Role;
 use crate::scrambler::Scrambler;
+use crate::seed::Seed;
 use crate::stream::{Silent, Stream};
+use crate::symbol::{NoSymbol, Symbol};
 use std::fmt::Debug;
 use std::test::Fail;
 
@@ -83,10 +85,10 @@ fn check_eq<T: PartialEq + Debug + Drop>(answer: T, wanted: T) -> Result<(), Fai
 
 // Every word writes its pair and is read from it; what no word writes is read as none.
 fn writes<L: LineCode>(code: &L, pairs: &[(i8, i8); 8]) -> Result<(), Fail> {
-    for word in 0..8u8 {
-        let pair = pairs[word as usize];
-        check_eq(code.write(word), pair)?;
-        check_eq(code.write(word + 8), pair)?;
+    for (place, pair) in pairs.iter().enumerate() {
+        let word = place as u8;
+        check_eq(code.write(word), *pair)?;
+        check_eq(code.write(word + 8), *pair)?;
         check_eq(code.read(pair.0, pair.1), Some(word))?;
     }
     check_eq(code.read(0, 0), None)?;
@@ -126,6 +128,8 @@ fn both_roles_give_their_masks() -> Result<(), Fail> {
         &MASTER_FROM_32767,
     )?;
     starts(&mut Scrambler::new(Role::Slave, 10922)?, &SLAVE_FROM_10922)?;
+    let from_one = &mut Scrambler::from_seed(Role::Master, Seed::ONE);
+    starts(from_one, &MASTER_FROM_1)?;
     starts(&mut Silent, &[0; 6])
 }
 
@@ -137,5 +141,20 @@ fn only_states_are_seeds(rt: HostRuntime) -> Result<(), Fail> {
             Err(fault) => assert_eq!(rt; fault, MakingFault::Seed),
         }
     }
+    Ok(())
+}
+
+#[test]
+fn symbols_and_faults_print(rt: HostRuntime) -> Result<(), Fail> {
+    let symbols = [Symbol::MINUS, Symbol::ZERO, Symbol::PLUS];
+    for (symbol, wanted) in symbols.iter().zip(&["-1", "0", "1"]) {
+        let printed = format!(in rt.alloc(); "{symbol}")?;
+        assert_eq!(rt; printed.as_str(), *wanted);
+    }
+    let printed = format!(in rt.alloc(); "{}; {}", NoSymbol(2), MakingFault::Seed)?;
+    assert_eq!(rt;
+        printed.as_str(),
+        "2 is no line symbol; a seed of 0 or of more than fifteen bits"
+    );
     Ok(())
 }

@@ -3,16 +3,18 @@ ghost use Rattle.lines.specs.LineCodes.{ring_pair};
 ghost use Rattle.std.proofs.Common.{rules};
 
 use crate::line_code::LineCode;
+use crate::ordered::number_of;
+use crate::symbol::Symbol;
 
-const PAIRS: [(i8, i8); 8] = [
-    (-1, -1),
-    (-1, 0),
-    (0, 1),
-    (-1, 1),
-    (0, -1),
-    (1, -1),
-    (1, 1),
-    (1, 0),
+const PAIRS: [(Symbol, Symbol); 8] = [
+    (Symbol::MINUS, Symbol::MINUS),
+    (Symbol::MINUS, Symbol::ZERO),
+    (Symbol::ZERO, Symbol::PLUS),
+    (Symbol::MINUS, Symbol::PLUS),
+    (Symbol::ZERO, Symbol::MINUS),
+    (Symbol::PLUS, Symbol::MINUS),
+    (Symbol::PLUS, Symbol::PLUS),
+    (Symbol::PLUS, Symbol::ZERO),
 ];
 
 /// Writes the pairs of a table around the ring.
@@ -28,15 +30,16 @@ impl LineCode for Ring {
 
     ghost distinct = { Prim.search rules };
 
-    fn write(&self, word: u8) -> (i8, i8) {
+    fn write_symbols(&self, word: u8) -> (Symbol, Symbol) {
         PAIRS[(word % 8) as usize]
     }
 
-    fn read(&self, first: i8, second: i8) -> Option<u8> {
-        for word in 0..8u8 {
-            let (x, y) = PAIRS[word as usize];
-            if x == first && y == second {
-                return Some(word);
+    fn read_symbols(&self, first: Symbol, second: Symbol) -> Option<u8> {
+        // By the pairs' numbers, so that nothing branches on a symbol; a loop, since the proof for `position` didn't close.
+        let number = number_of(first, second);
+        for (word, (x, y)) in PAIRS.iter().enumerate() {
+            if number_of(*x, *y) == number {
+                return Some(word as u8);
             }
         }
         None

@@ -9,11 +9,10 @@ ghost use Rattle.lines.specs.Moves.{mask_below};
 
 use crate::making::MakingFault;
 use crate::role::Role;
+use crate::seed::Seed;
 use crate::stream::Stream;
 
-const LARGEST_STATE: u16 = 32767;
-
-// Three bits in the other order.
+// Three bits in the other order. A table, since `reverse_bits` of sixteen took longer.
 const TURNED: [u16; 8] = [0, 4, 2, 6, 1, 5, 3, 7];
 
 /// The stream of one role's masks, from a state of 1 to 32,767.
@@ -29,10 +28,18 @@ impl Scrambler {
     pub fn new(role: Role, seed: u16) -> Result<Scrambler, MakingFault>
         ensures starts_at_the_seed { elim result [ Ok s ↦ (is_state seed ≡ true) × (s.role ≡ role) × (s.state ≡ seed) | Err fault ↦ (is_state seed ≡ false) × (making_refusal fault ≡ refusal 1 Layer.Making 0) ] }
     {
-        if seed == 0 || seed > LARGEST_STATE {
-            return Err(MakingFault::Seed);
+        let seed = Seed::try_from(seed)?;
+        Ok(Scrambler::from_seed(role, seed))
+    }
+
+    /// Starts at a seed that was checked before.
+    pub fn from_seed(role: Role, seed: Seed) -> Scrambler
+        ensures role_and_seed { (result.role ≡ role) × (result.state ≡ seed.number) }
+    {
+        Scrambler {
+            role,
+            state: seed.into(),
         }
-        Ok(Scrambler { role, state: seed })
     }
 }
 

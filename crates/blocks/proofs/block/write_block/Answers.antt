@@ -1,18 +1,20 @@
-use Rattle.std.proofs.Common.{refl}
+use Rattle.std.proofs.Common.{subst}
+use Rattle.std.proofs.lemmas.Result.{err_from_is_err_and}
+use Rattle.blocks.specs.Characters.{FirstNoCharacter}
 use Rattle.blocks.specs.Blocks.{WriteRefused}
 use Rattle.blocks.proofs.block.write_block.Goals as goal
 
-pub returns-then-characters-ne10 : goal.returns-then-characters-ne10
-returns-then-characters-ne10 c = record { block_they_make_or_refused = WriteRefused.input_length c.if-characters-ne10.true; refusal_writes_nothing = refl }
+pub returns-in_default-clause-block_they_make_or_refused :
+    goal.returns-in_default-clause-block_they_make_or_refused
+returns-in_default-clause-block_they_make_or_refused c = WriteRefused.input_length c.in_default.ensures.1
 
-pub returns-then-block-ne11 : goal.returns-then-block-ne11
-returns-then-block-ne11 c = record { block_they_make_or_refused = WriteRefused.output_length c.if-characters-ne10.false c.if-block-ne11.true; refusal_writes_nothing = refl }
+pub returns-then-block-ne11-clause-block_they_make_or_refused :
+    goal.returns-then-block-ne11-clause-block_they_make_or_refused
+returns-then-block-ne11-clause-block_they_make_or_refused c = WriteRefused.output_length c.in-Ok.ensures.1.long c.if-block-ne11.true
 
-pub returns-in-Some : goal.returns-in-Some
-returns-in-Some c = record { block_they_make_or_refused = WriteRefused.no_character c.if-characters-ne10.false c.if-block-ne11.false c.in-Some.ensures.first_place_of_no_character; refusal_writes_nothing = refl }
-
-pub fill-requires : goal.fill-requires
-fill-requires c = (c.if-characters-ne10.false, (c.if-block-ne11.false, c.in_default.ensures.first_place_of_no_character))
-
-pub returns : goal.returns
-returns c = record { block_they_make_or_refused = record { ten = c.if-characters-ne10.false; characters = c.in_default.ensures.first_place_of_no_character; makes = c.fill.ensures }; refusal_writes_nothing = tt }
+pub returns-in_err-ten-clause-block_they_make_or_refused :
+    goal.returns-in_err-ten-clause-block_they_make_or_refused
+returns-in_err-ten-clause-block_they_make_or_refused c =
+    let p = err_from_is_err_and c.from_residual.result c.from_residual.ensures.1 in
+    let (place, first, is) = c.in_err-ten.ensures.their_characters_or_first_place in
+    rw (p.1, p.2, is) (WriteRefused.no_character c.in-Ok.ensures.1.long c.if-block-ne11.false (subst (λ ns. FirstNoCharacter ns place) c.in-Ok.ensures.1.same first))

@@ -1,9 +1,9 @@
-use Rattle.std.proofs.Common.{ℕ, ◌*◌, ◌/◌, ◌%◌, ◌<◌, reverse, sym, ap, ◌∙◌, subst, arith}
+use Rattle.std.proofs.Common.{ℕ, ◌*◌, ◌/◌, ◌%◌, ◌<◌, reverse, sym, ap, ◌∙◌, subst}
 use lib.Bits.{bit_and, bit_xor}
 use Rattle.blocks.specs.Bits.{bits, number}
 use Rattle.lines.specs.Scramblers.{scrambler_mask}
 use Rattle.lines.specs.Moves.{state_after_state, mask_later}
-use Rattle.lines.proofs.NineAtOnce.{next_state_right, drawn_below, mask_right}
+use Rattle.lines.proofs.NineAtOnce.{next_state_right, mask_right}
 use Rattle.lines.proofs.scrambler.ScramblerStream.next.Goals as goal
 
 pub invariant_of-self : goal.invariant_of-self
@@ -11,11 +11,6 @@ invariant_of-self c =
     let now = c.args.self.now in
     let left = ap (bit_xor (bit_and now.state 63 * 512 % 65536)) c.fed_back-fed.ensures.nine_moves_on ∙ next_state_right now.role now.state now.ok.1 in
     record { ok = subst (λ (s : ℕ). (0 < s) × (s < 32768)) (sym left) (state_after_state now.role now.state 9 now.ok.0 now.ok.1) }
-
-pub reversed-requires : goal.reversed-requires
-reversed-requires c =
-    let fed : c.fed_back-fed.result < 512 = omega (arith, c.fed_back-fed.ensures.nine_moves_on) in
-    drawn_below _ _ fed
 
 pub returns : goal.returns
 returns c =
