@@ -1,25 +1,16 @@
 -- A correction, one coefficient at a time. Assumes nothing.
-use Rattle.std.proofs.Common.{◌≡◌, ℕ, suc, ◌+◌, ◌-◌, ◌<◌, ◌≤◌, List, [], ◌∷◌, length, get_or, drop, sym, ap, ◌∙◌, arith}
-use Rattle.std.proofs.lemmas.List.{drop_more, drop_all}
+use Rattle.std.proofs.Common.{◌≡◌, ℕ, suc, ◌+◌, ◌-◌, ◌<◌, ◌≤◌, List, ◌∷◌, length, get_or, drop, sym, ap, ◌∙◌, arith}
+use Rattle.std.proofs.lemmas.List.{drop_more}
 use Rattle.arithmetic.specs.Laws.{Operations}
 use Rattle.code.specs.Polynomials.{eval_monic, dot_monic, quotient}
 
--- what the loop has of the polynomial p from the coefficient k on: its value, the quotient in the window k - 1, and the quotient's value
+-- what the loop has of p from the coefficient k on: the value, the quotient in the window k - 1, and the quotient's value
 pub record Divides (F : Operations) (p : List ℕ) (s : ℕ → ℕ) (x k value numerator denominator : ℕ) : Type 0 where
   pub value_is : value ≡ eval_monic F (drop k p) x
   pub numerator_is : numerator ≡ dot_monic F (quotient F (drop k p) x) s (k - 1)
   pub denominator_is : denominator ≡ eval_monic F (quotient F (drop k p) x) x
 
 module _ (F : Operations) (p : List ℕ) (s : ℕ → ℕ) (x : ℕ) where
-  pub divides_none : (k : ℕ) → length p ≤ k → Divides F p s x k 1 (s (k - 1)) 1
-  divides_none k h =
-      let none : drop k p ≡ [] = drop_all k p h in
-      record {
-        value_is = ap (λ q. eval_monic F q x) (sym none);
-        numerator_is = ap (λ q. dot_monic F (quotient F q x) s (k - 1)) (sym none);
-        denominator_is = ap (λ q. eval_monic F (quotient F q x) x) (sym none);
-      }
-
   pub divides_more : (k v n d v' n' d' : ℕ) → 1 < k → k ≤ length p → Divides F p s x k v n d
       → v' ≡ F.plus (get_or p (k - 1) 0) (F.times x v) → n' ≡ F.plus (F.times v' (s (k - 1 - 1))) n → d' ≡ F.plus v' (F.times x d) → Divides F p s x (k - 1) v' n' d'
   divides_more k v n d v' n' d' h l old ev en ed =

@@ -15,5 +15,6 @@ pub mod Places
 pub mod Nearest
 pub mod Corrections
 pub mod Repairs
-pub mod Refused
+pub mod Filled
 pub mod Agreement
+pub mod Refused

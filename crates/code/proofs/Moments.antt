@@ -1,4 +1,4 @@
--- Sums over lists, the exchange of a polynomial with the moments of terms, and the separation of terms at different points. Assumes nothing.
+-- Sums over lists, the exchange of a polynomial with the moments of terms, and terms at different points. Assumes nothing.
 use Rattle.std.proofs.Common.{◌≡◌, ℕ, suc, ◌<◌, List, [], ◌∷◌, length, sym, refl, ap, ◌∙◌, arith}
 use mathlib.Core.Path.{fun_ext}
 use Rattle.arithmetic.specs.Laws.{Operations, Lawful, power, elements}

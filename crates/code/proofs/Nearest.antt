@@ -1,23 +1,13 @@
 -- The word with the corrections is the codeword that is near. Assumes nothing.
-use Rattle.std.proofs.Common.{◌≡◌, ℕ, ◌+◌, ◌<◌, ◌≤◌, cond, eqb, List, length, get_or, take, filter, sym, ap, ◌∙◌, subst, arith}
+use Rattle.std.proofs.Common.{◌≡◌, ℕ, ◌+◌, ◌<◌, ◌≤◌, cond, eqb, List, length, get_or, filter, sym, ap, ◌∙◌, subst, arith}
 use Rattle.std.specs.List.{AllByRecursion}
-use Rattle.std.proofs.ByRecursion.{All-from_get_or}
-use Rattle.std.proofs.lemmas.List.{get_or-take, length-take-le}
 use Rattle.arithmetic.specs.Laws.{Operations, Lawful, power, elements, longest}
 use Rattle.code.specs.Words.{below, coefficient, distance, syndrome}
 use Rattle.code.specs.Polynomials.{eval_monic, dot_monic, reads, is_root, correction}
-use Rattle.code.specs.Prepared.{Vanishes}
-use Rattle.code.specs.Locating.{zero_at, restored, place_point}
+use Rattle.code.specs.Locating.{zero_at, restored}
 use Rattle.code.proofs.Distances.{kept_same}
 use Rattle.code.proofs.Unique.{coefficients_same}
 use Rattle.code.proofs.Decoded.{decoded, suspects, root_count}
-
--- what stands at the places found, as one statement over all of them
-pub vanishes_all : (F : Operations) (p at ks : List ℕ) (n : ℕ) → n ≤ length at → take n at ≡ ks → Vanishes F (place_point F at) n p → AllByRecursion (λ k. eval_monic F p (power F F.alpha k) ≡ 0) ks
-vanishes_all F p at ks n h e z =
-    let P : ℕ → Type 0 = λ k. eval_monic F p (power F F.alpha k) ≡ 0 in
-    let long : length (take n at) ≡ n = length-take-le n at h in
-    subst (AllByRecursion P) e (All-from_get_or P (take n at) 0 (λ i l. let b : i < n = omega arith in subst P (sym (get_or-take n at i 0 b)) (z i b)))
 
 module _ {F : Operations} (laws : Lawful F) (p values : List ℕ) (n : ℕ) (short : n ≤ longest) (lv : length values ≡ n)
     (at : (i : ℕ) → i < n → get_or values i 0 ≡ eval_monic F p (power F F.alpha i)) where

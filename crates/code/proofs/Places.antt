@@ -1,37 +1,13 @@
--- Places gathered, and values of a polynomial by its terms. Assumes nothing.
-use Rattle.std.proofs.Common.{◌≡◌, ℕ, zero, suc, ◌+◌, ◌<◌, ◌≤◌, Bool, true, false, cond, List, [], ◌∷◌, ◌++◌, length, get_or, take, set, filter, sym, refl, ap, ◌∙◌, subst, append_assoc, add-zero, arith, length-append}
+-- Places that pass a test, and values of a polynomial by its terms. Assumes nothing.
+use Rattle.std.proofs.Common.{◌≡◌, ℕ, zero, suc, ◌+◌, ◌<◌, ◌≤◌, Bool, true, false, cond, List, [], ◌∷◌, ◌++◌, length, get_or, filter, fold, sym, refl, ap, ◌∙◌, add-zero, add-one, arith}
 use native.Mathlib.Decide.{ℕ_discrete}
-use Rattle.std.proofs.lemmas.List.{take_more_set, length-take-le, get_or-set_same, get_or-set_other}
-use Rattle.arithmetic.specs.Laws.{Operations, Lawful, power}
+use Rattle.arithmetic.specs.Laws.{Operations, Lawful, power, elements}
 use Rattle.code.specs.Words.{below}
 use Rattle.code.specs.Polynomials.{eval, eval_monic, total}
 use Rattle.code.specs.Locating.{Terms}
-use Rattle.code.proofs.Basic.{times_one_left, times_zero_right, times_left_comm, power_times}
+use Rattle.code.proofs.Basic.{plus_zero_left, plus_zero_right, times_one_left, times_zero_right, times_left_comm, power_times}
 use Rattle.code.proofs.Quotients.{eval_monic_value}
 use Rattle.code.proofs.Values.{eval_low}
-
--- the places gathered from the highest
-module _ (test : ℕ → Bool) (at all : List ℕ) (count i : ℕ) (before : take count at ++ filter test (below (suc i)) ≡ all) where
-  pub gather_room : test i ≡ true → count ≤ length at → count + 1 ≤ length all
-  gather_room e h =
-      let one : take count at ++ (i ∷ filter test (below i)) ≡ all = ap (λ b. take count at ++ cond b (i ∷ filter test (below i)) (filter test (below i))) (sym e) ∙ before in
-      let front : length (take count at) ≡ count = length-take-le count at h in
-      omega (arith, ap length one, length-append (take count at) (i ∷ filter test (below i)))
-
-  pub gather_yes : test i ≡ true → count < length at → take (count + 1) (set at count i) ++ filter test (below i) ≡ all
-  gather_yes e h =
-      ap (λ y. y ++ filter test (below i)) (take_more_set at count i h) ∙ append_assoc (take count at) (i ∷ []) (filter test (below i))
-      ∙ ap (λ b. take count at ++ cond b (i ∷ filter test (below i)) (filter test (below i))) (sym e) ∙ before
-
-  pub gather_no : test i ≡ false → take count at ++ filter test (below i) ≡ all
-  gather_no e = ap (λ b. take count at ++ cond b (i ∷ filter test (below i)) (filter test (below i))) (sym e) ∙ before
-
-pub places_small : (at : List ℕ) (count i n : ℕ) → i < n → count < length at → ((m : ℕ) → m < count → get_or at m 0 < n) → (m : ℕ) → m < count + 1 → get_or (set at count i) m 0 < n
-places_small at count i n h l s m b = elim (ℕ_discrete m count) [
-  | yes e ↦ (let same : get_or (set at count i) count 0 ≡ i = get_or-set_same at count i 0 l in
-      let P : ℕ → Type 0 = λ k. get_or (set at count i) k 0 < n in subst P (sym e) (omega arith))
-  | no k ↦ (let other : get_or (set at count i) m 0 ≡ get_or at m 0 = get_or-set_other at count m i 0 k in omega (arith, s m (omega arith)))
-]
 
 -- a place that passes is among those kept
 pub kept_some : (test : ℕ → Bool) (n i : ℕ) → i < n → test i ≡ true → 0 < length (filter test (below n))
@@ -45,11 +21,33 @@ kept_some test (suc n) i h e = go (test n) refl (λ l. kept_some test n i l e)
       | no d ↦ r (omega arith)
     ]
 
+-- one more place looked at, kept or not
+pub kept_next : (test : ℕ → Bool) (n : ℕ) → test n ≡ true → filter test (below (n + 1)) ≡ n ∷ filter test (below n)
+kept_next test n e = ap (λ m. filter test (below m)) (add-one n) ∙ ap (λ b. cond b (n ∷ filter test (below n)) (filter test (below n))) e
+
+pub kept_skipped : (test : ℕ → Bool) (n : ℕ) → test n ≡ false → filter test (below (n + 1)) ≡ filter test (below n)
+kept_skipped test n e = ap (λ m. filter test (below m)) (add-one n) ∙ ap (λ b. cond b (n ∷ filter test (below n)) (filter test (below n))) e
+
+kept_fewer : (test : ℕ → Bool) (n m : ℕ) → n ≤ m → length (filter test (below n)) ≤ length (filter test (below m))
+kept_fewer test n zero h = let e : n ≡ 0 = omega arith in let l = ap (λ k. length (filter test (below k))) e in omega arith
+kept_fewer test n (suc m) h = elim (ℕ_discrete n (suc m)) [
+  | yes e ↦ (let l = ap (λ k. length (filter test (below k))) e in omega arith)
+  | no d ↦ go (test m) (kept_fewer test n m (omega arith))
+]
+  where
+    go : (b : Bool) → length (filter test (below n)) ≤ length (filter test (below m)) → length (filter test (below n)) ≤ length (cond b (m ∷ filter test (below m)) (filter test (below m)))
+    go true l = omega arith
+    go false l = l
+
+-- a place that is kept has room among at most m
+pub kept_room : (test : ℕ → Bool) (i n m : ℕ) → i < n → test i ≡ true → length (filter test (below n)) ≤ m → length (filter test (below i)) < m
+kept_room test i n m h e few = let more = ap length (kept_next test i e) in let fewer = kept_fewer test (i + 1) n (omega arith) in omega arith
+
 module _ {F : Operations} (laws : Lawful F) where
   infixl 60 ◌⊕◌
   infixl 70 ◌⊗◌
   open F use {plus as ◌⊕◌, times as ◌⊗◌}
-  open laws use {times_assoc, times_comm, distributes}
+  open laws use {plus_below, plus_assoc, times_assoc, times_comm, distributes}
 
   sum_step : (a x y e : ℕ) → a ⊗ y ⊕ (x ⊗ y) ⊗ e ≡ y ⊗ (a ⊕ x ⊗ e)
   sum_step a x y e = simp (distributes, times_assoc, times_comm, times_left_comm laws)
@@ -85,3 +83,15 @@ module _ {F : Operations} (laws : Lawful F) where
   -- a term at the next point
   pub next_term : (c k i : ℕ) → power F F.alpha k ⊗ (c ⊗ power F (power F F.alpha i) k) ≡ c ⊗ power F (power F F.alpha (suc i)) k
   next_term c k i = times_left_comm laws _ _ _ ∙ ap (λ z. c ⊗ z) (sym (power_times laws F.alpha (power F F.alpha i) k))
+
+  -- a sum made from the first number on
+  fold_from : (ts : List ℕ) (acc : ℕ) → acc < elements → fold F.plus acc ts ≡ acc ⊕ total F ts
+  fold_from [] acc b = sym (plus_zero_right laws acc b)
+  fold_from (t ∷ ts) acc b = fold_from ts (acc ⊕ t) (plus_below _ _) ∙ plus_assoc acc t (total F ts)
+
+  pub total_below : (ts : List ℕ) → total F ts < elements
+  total_below [] = omega arith
+  total_below (t ∷ ts) = plus_below _ _
+
+  pub fold_total : (ts : List ℕ) → fold F.plus 0 ts ≡ total F ts
+  fold_total ts = fold_from ts 0 (omega arith) ∙ plus_zero_left laws (total F ts) (total_below ts)

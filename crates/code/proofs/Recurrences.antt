@@ -1,39 +1,20 @@
 -- The search for a polynomial that a row of numbers annuls. Assumes nothing.
-use Rattle.std.proofs.Common.{◌≡◌, ℕ, zero, suc, ◌+◌, ◌-◌, ◌<◌, ◌≤◌, List, [], ◌∷◌, ◌++◌, length, get_or, take, drop, set, replicate, sym, refl, ap, ◌∙◌, append_assoc, add-zero, add-suc, add-one, arith, length-append, take-append-drop, drop-cons}
+use Rattle.std.proofs.Common.{◌≡◌, ℕ, zero, suc, ◌+◌, ◌-◌, ◌<◌, ◌≤◌, List, ◌++◌, length, get_or, take, drop, set, replicate, sym, refl, ap, ◌∙◌, add-zero, add-one, arith, length-append, take-append-drop, drop-cons}
 use native.Mathlib.Decide.{ℕ_discrete}
 use lib.ListN.{length-replicate}
 use lib.Seq.{drop-length}
-use Rattle.std.proofs.lemmas.List.{take_more_set, take_more, take-set, drop-set, drop-set-lt}
+use Rattle.std.proofs.lemmas.List.{take-set, drop-set}
 use Rattle.arithmetic.specs.Laws.{Operations, Lawful, elements}
-use Rattle.code.specs.Polynomials.{dot_monic, plus_monic, reads}
+use Rattle.code.specs.Polynomials.{dot_monic, plus_monic}
 use Rattle.code.proofs.Basic.{plus_zero_left, times_one_right, times_zero_left, times_zero_right}
 use Rattle.code.proofs.Monic.{dot_monic_below, linear}
 
 -- turns of the loops
 module _ (F : Operations) where
-  pub against_step : (p s : List ℕ) (j i value : ℕ) → i < length p → value ≡ dot_monic F (drop (suc i) p) (reads s) (j + suc i)
-      → F.plus (F.times (get_or p i 0) (get_or s (j + i) 0)) value ≡ dot_monic F (drop i p) (reads s) (j + i)
-  against_step p s j i value h e = rw (drop-cons p i 0 h) (ap (F.plus _) (e ∙ ap (dot_monic F (drop (suc i) p) (reads s)) (add-suc j i)))
-
-  pub plus_step : (k : ℕ) (p q : List ℕ) (i y : ℕ) → i < length p → i < length q → y ≡ F.plus (get_or q i 0) (F.times k (get_or p i 0))
-      → take (i + 1) (set q i y) ++ plus_monic F k (drop (i + 1) p) (drop (i + 1) (set q i y)) ≡ take i q ++ plus_monic F k (drop i p) (drop i q)
-  plus_step k p q i y hp hq e =
-      rw (take_more_set q i y hq, drop-set-lt (i + 1) q i y (omega arith), append_assoc, drop-cons p i 0 hp, drop-cons q i 0 hq, add-one i, e) refl
-
   pub plus_end : (k : ℕ) (p q : List ℕ) (y : ℕ) → length p < length q → y ≡ F.plus (get_or q (length p) 0) k
       → set q (length p) y ≡ take (length p) q ++ plus_monic F k (drop (length p) p) (drop (length p) q)
   plus_end k p q y h e =
       sym (take-append-drop (length p) (set q (length p) y)) ∙ rw (take-set q (length p) y, drop-set q (length p) y h, drop-length p, drop-cons q (length p) 0 h, add-one (length p), e) refl
-
-pub raise_turn : (by i : ℕ) (low p : List ℕ) → by + i < length low → i < length p → take (by + i) low ≡ replicate by 0 ++ take i p
-    → take (by + (i + 1)) (set low (by + i) (get_or p i 0)) ≡ replicate by 0 ++ take (i + 1) p
-raise_turn by i low p h l e =
-    let n : by + (i + 1) ≡ by + i + 1 = omega arith in
-    ap (λ m. take m (set low (by + i) (get_or p i 0))) n
-    ∙ take_more_set low (by + i) (get_or p i 0) h
-    ∙ ap (λ q. q ++ (get_or p i 0 ∷ [])) e
-    ∙ append_assoc (replicate by 0) (take i p) (get_or p i 0 ∷ [])
-    ∙ ap (λ q. replicate by 0 ++ q) (sym (take_more p i 0 l))
 
 module _ {F : Operations} (laws : Lawful F) (s : ℕ → ℕ) (sb : (j : ℕ) → s j < elements) where
   infixl 60 ◌⊕◌

@@ -1,7 +1,8 @@
 -- The register that divides a word by the generator polynomial. Assumes nothing.
-use Rattle.std.proofs.Common.{◌≡◌, ℕ, zero, suc, ◌+◌, ◌<◌, ◌≤◌, List, [], ◌∷◌, ◌++◌, length, get_or, take, drop, set, replicate, sym, refl, ap, ◌∙◌, append_assoc, add-one, arith, take-append-drop, take_all}
+use Rattle.std.proofs.Common.{◌≡◌, ℕ, zero, suc, ◌+◌, ◌*◌, ◌<◌, List, [], ◌∷◌, ◌++◌, length, get_or, take, drop, replicate, sym, refl, ap, ◌∙◌, add-one, arith, take-append-drop}
 use native.Mathlib.Decide.{dec_lt}
-use Rattle.std.proofs.lemmas.List.{take_more, take_more_set, drop-set-lt, drop_more, set_split, drop_all, append-nil, length_push, get_or_past, ext_get_or}
+use Rattle.std.specs.Simd.{first_chunks}
+use Rattle.std.proofs.lemmas.List.{take_more, get_or-take, get_or-drop, length_push, get_or_past, ext_get_or}
 use Rattle.arithmetic.specs.Laws.{Operations, Lawful, power, elements}
 use Rattle.code.specs.Polynomials.{value, added, advanced}
 use Rattle.code.specs.Prepared.{Multiples, Divided}
@@ -13,34 +14,11 @@ zeros_small zero k = omega arith
 zeros_small (suc n) zero = omega arith
 zeros_small (suc n) (suc k) = zeros_small n k
 
-pub set_small : (w : List ℕ) (i v : ℕ) → v < elements → ((k : ℕ) → get_or w k 0 < elements) → (k : ℕ) → get_or (set w i v) k 0 < elements
-set_small [] i v b s k = omega arith
-set_small (a ∷ w) zero v b s zero = b
-set_small (a ∷ w) zero v b s (suc k) = s (suc k)
-set_small (a ∷ w) (suc i) v b s zero = s 0
-set_small (a ∷ w) (suc i) v b s (suc k) = set_small w i v b (λ n. s (suc n)) k
-
--- turns of the loops that add a row in place
-module _ (F : Operations) where
-  pub advance_turn : (r row : List ℕ) (k v : ℕ) → k + 1 < length r → k < length row → v ≡ F.plus (get_or r (k + 1) 0) (get_or row k 0)
-      → take (k + 1) (set r k v) ++ added F (drop (k + 1 + 1) (set r k v) ++ (0 ∷ [])) (drop (k + 1) row) ≡ take k r ++ added F (drop (k + 1) r ++ (0 ∷ [])) (drop k row)
-  advance_turn r row k v h l e =
-      let hr : k < length r = omega arith in
-      rw (take_more_set r k v hr, drop-set-lt (k + 1 + 1) r k v (omega arith), append_assoc, drop_more r (k + 1) 0 h, drop_more row k 0 l, e) refl
-
-  pub advance_end : (r row : List ℕ) (k v : ℕ) → k + 1 ≡ length r → length row ≡ length r → v ≡ F.plus 0 (get_or row k 0)
-      → set r k v ≡ take k r ++ added F (drop (k + 1) r ++ (0 ∷ [])) (drop k row)
-  advance_end r row k v h l e =
-      let hr : k < length r = omega arith in
-      let hw : k < length row = omega arith in
-      set_split r k v hr ∙ rw (← (add-one k), drop_all (k + 1) r (omega arith), drop_more row k 0 hw, e) refl
-
-  pub add_turn : (r row : List ℕ) (k v : ℕ) → k < length r → k < length row → v ≡ F.plus (get_or r k 0) (get_or row k 0)
-      → take (k + 1) (set r k v) ++ added F (drop (k + 1) (set r k v)) (drop (k + 1) row) ≡ take k r ++ added F (drop k r) (drop k row)
-  add_turn r row k v h l e = rw (take_more_set r k v h, drop-set-lt (k + 1) r k v (omega arith), append_assoc, drop_more r k 0 h, drop_more row k 0 l, e) refl
-
-  pub add_end : (r row : List ℕ) (k : ℕ) → length r ≤ k → r ≡ take k r ++ added F (drop k r) (drop k row)
-  add_end r row k h = sym (rw (drop_all k r h) (append-nil (take k r) ∙ take_all k r h))
+-- the pairs that a list begins with
+pub pair_at : (xs : List ℕ) (n i k : ℕ) → i < n → k < 2 → get_or (get_or (first_chunks 2 n xs) i []) k 0 ≡ get_or xs (2 * i + k) 0
+pair_at xs zero i k h l = absurd (omega arith)
+pair_at xs (suc n) zero k h l = get_or-take 2 xs k 0 l ∙ (let e : k ≡ 2 * 0 + k = omega arith in ap (λ m. get_or xs m 0) e)
+pair_at xs (suc n) (suc i) k h l = pair_at (drop 2 xs) n i k (omega arith) l ∙ get_or-drop 2 xs (2 * i + k) 0 ∙ (let e : 2 + (2 * i + k) ≡ 2 * suc i + k = omega arith in ap (λ m. get_or xs m 0) e)
 
 module _ {F : Operations} (laws : Lawful F) where
   infixl 60 ◌⊕◌
@@ -61,6 +39,12 @@ module _ {F : Operations} (laws : Lawful F) where
   added_at (a ∷ p) [] i l h = absurd (omega arith)
   added_at (a ∷ p) (b ∷ q) zero l h = refl
   added_at (a ∷ p) (b ∷ q) (suc i) l h = added_at p q i (omega arith) (omega arith)
+
+  -- what has the sums of two rows at its places
+  pub added_by : (p q new : List ℕ) → length p ≡ length q → length new ≡ length p → ((i : ℕ) → i < length p → get_or new i 0 ≡ get_or p i 0 ⊕ get_or q i 0) → new ≡ added F p q
+  added_by p q new l n e =
+      let long : length (added F p q) ≡ length p = length_added F p q l in
+      ext_get_or 0 new (added F p q) (n ∙ sym long) (λ i h. let b : i < length p = omega arith in e i b ∙ sym (added_at p q i l b))
 
   push_zero : (p : List ℕ) (i : ℕ) → get_or (p ++ (0 ∷ [])) i 0 ≡ get_or p i 0
   push_zero [] zero = refl

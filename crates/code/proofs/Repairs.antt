@@ -1,5 +1,5 @@
 -- What a repair comes to. Assumes nothing.
-use Rattle.std.proofs.Common.{◌≡◌, ℕ, ◌<◌, ◌≤◌, Bool, true, false, List, sym, ap, subst, arith}
+use Rattle.std.proofs.Common.{◌≡◌, ℕ, ◌<◌, ◌≤◌, List, sym, ap, subst, arith}
 use Rattle.arithmetic.specs.Laws.{Operations, Lawful}
 use Rattle.code.specs.Words.{distance, reach, Word, Codeword}
 use Rattle.code.specs.Outcomes.{Repaired, Astray}
@@ -14,11 +14,8 @@ module _ {F : Operations} (laws : Lawful F) where
     pub astray_far : (n : ℕ) → n ≡ distance w u → reach < n → Astray F w
     astray_far n e far = record { word = hw; none = λ v hv near. let same : distance w v ≡ distance w u = ap (distance w) (only v hv near) in omega arith }
 
-    pub astray_not : (b : Bool) → (Codeword F u → b ≡ true) → b ≡ false → Astray F w
-    astray_not b sure off = record {
-      word = hw;
-      none = λ v hv near.
-          let t : b ≡ true = sure (subst (Codeword F) (only v hv near) hv) in
-          let z : ◌≡◌ {A = ℕ} 0 1 = cc in
-          omega arith;
-    }
+    pub astray_not : (Codeword F u → ⊥) → Astray F w
+    astray_not never = record { word = hw; none = λ v hv near. never (subst (Codeword F) (only v hv near) hv) }
+
+    pub repaired_near : (n : ℕ) → n ≡ distance w u → n ≤ reach → Codeword F u → Repaired F w u n
+    repaired_near n e h code = record { word = hw; codeword = code; count = e; near = h; only = only }

@@ -1,5 +1,5 @@
 -- What a fault is as a refusal, and which words are refused for their shape. Assumes nothing.
-use Rattle.std.specs.Prelude.{◌≡◌, ℕ, ◌<◌, ◌≤◌, ◌≢◌, List, length, slice_index}
+use Rattle.std.specs.Prelude.{◌≡◌, ℕ, ◌<◌, ◌≤◌, ◌≢◌, List, ◌++◌, length, slice_index, codes, decimal}
 use Rattle.arithmetic.specs.Laws.{elements}
 use Rattle.refusal.specs.Refusals.{refusal}
 use Rattle.refusal.specs.declared.kinds.Layer.TheVariants.{Code}
@@ -25,3 +25,9 @@ pub record FirstTooLarge (w : List ℕ) (place : ℕ) : Type 0 where
 pub data Misshapen (w : List ℕ) : Refusal → Type 0 where
   not_full : length w ≢ word_length → Misshapen w (refusal 3 Code 0)
   too_large : (place : ℕ) → FirstTooLarge w place → Misshapen w (refusal 6 Code place)
+
+-- what a fault prints
+abbrev pub code_fault_text : CodeFault → List ℕ
+code_fault_text CodeFault.Length = codes "a word of the wrong length"
+code_fault_text (CodeFault.SymbolTooLarge place) = codes "a symbol above 511 at place " ++ decimal place
+code_fault_text CodeFault.BeyondRepair = codes "no codeword within reach"

@@ -5,7 +5,6 @@ use Rattle.code.specs.Words.{coefficient, reach}
 use Rattle.code.specs.Polynomials.{dot_monic, reads, correction}
 use Rattle.code.specs.declared.shapes.Monic.{Monic}
 use Rattle.code.specs.declared.shapes.Recurrence.{Recurrence}
-use Rattle.code.specs.declared.shapes.Places.{Places}
 
 -- the coefficients of a monic polynomial below its leading 1, from the lowest
 abbrev pub poly : Monic → List ℕ
@@ -14,7 +13,6 @@ poly p = take p.degree p.low
 -- the polynomial found so far annuls the first `windows` windows of s; the one before it annuls one window less than the degree
 -- of the one found, and not the next, whose value has the inverse `scale`
 pub record Found (f : Operations) (s : List ℕ) (r : Recurrence) : Type 0 where
-  pub low : r.current.degree ≤ reach
   pub high : r.windows ≤ reach
   pub earlier_low : r.previous.degree ≤ r.windows
   pub annuls : (j : ℕ) → j < r.windows → dot_monic f (poly r.current) (reads s) j ≡ 0
@@ -28,14 +26,6 @@ whole p = poly p ++ (1 ∷ [])
 -- the terms of the polynomial with the coefficients cs at a point
 abbrev pub Terms : Operations → List ℕ → ℕ → List ℕ → Type 0
 Terms f cs x terms = (k : ℕ) → k < length cs → (slice_index terms k < elements) × (slice_index terms k ≡ f.times (slice_index cs k) (power f x k))
-
--- the places found
-abbrev pub found : Places → List ℕ
-found p = take p.count p.at
-
--- the point of the place that stands at m in a list of places
-abbrev pub place_point : Operations → List ℕ → ℕ → ℕ
-place_point f at m = power f f.alpha (slice_index at m)
 
 abbrev pub zero_at : List ℕ → ℕ → Bool
 zero_at values i = slice_index values i == 0

@@ -1,69 +1,54 @@
 //! A code over an arithmetic: completing a word and repairing it.
-ghost use Rattle.std.specs.Prelude.{◌≡◌, ℕ, ◌<◌, ◌≤◌, length, MatchResult, slice_index};
+ghost use Rattle.std.specs.Prelude.{◌≡◌, ℕ, ◌<◌, MatchOption, MatchResult, slice_index};
 ghost use Rattle.arithmetic.specs.Laws.{elements};
-ghost use Rattle.code.specs.Words.{Word};
-ghost use Rattle.code.specs.Faults.{Misshapen, code_refusal};
+ghost use Rattle.code.specs.Words.{word_length, Word};
+ghost use Rattle.code.specs.Faults.{FirstTooLarge, Misshapen, code_refusal};
 ghost use Rattle.code.specs.Outcomes.{Completed, CompleteRefused, Repaired, RepairRefused};
 ghost use Rattle.code.specs.Prepared.{Ready};
 
 use crate::fault::CodeFault;
-use crate::mending::{candidate, changes};
-use crate::register::{divide, is_codeword, is_zero, remainder};
+use crate::mending::changes;
+use crate::register::is_zero;
 use crate::shapes::Tables;
 use crate::sizes::{ELEMENTS, MESSAGE, REACH, SYMBOLS};
-use crate::syndromes::syndromes;
-use crate::tables::{generator, multiples, powers, steps};
 use arithmetic::Arithmetic;
 
 /// A code over an arithmetic, with what it prepared.
 #[derive(Drop)]
 pub struct Code<A: Arithmetic> {
-    arithmetic: A,
-    tables: Tables,
+    pub(crate) arithmetic: A,
+    pub(crate) tables: Tables,
     ghost ready: { Ready (A.field arithmetic) tables.points tables.rows tables.steps },
 }
 
-/// The tables of an arithmetic.
-fn prepare<A: Arithmetic>(a: &A) -> Tables
-    ensures { Ready (A.Arithmetic.field a.now) result.points result.rows result.steps }
+/// The place of the first symbol above 511.
+fn first_too_large(word: &[u16; SYMBOLS]) -> Option<usize>
+    ensures { MatchOption result
+        ((k : ℕ) → k < word_length → slice_index word.now k < elements)
+        (λ place. FirstTooLarge word.now place) }
 {
-    let points = powers(a);
-    let g = generator(a, &points);
-    let rows = multiples(a, &g);
-    let steps = steps(a, &points);
-    Tables {
-        points,
-        rows,
-        steps,
+    // The largest is found without a branch for each symbol, and nearly every word is right.
+    let largest = word.iter().fold(0, |most, symbol| (*symbol).max(most));
+    if usize::from(largest) < ELEMENTS {
+        return None;
     }
+    word.iter()
+        .position(|symbol| usize::from(*symbol) >= ELEMENTS)
 }
 
-/// The place of the first symbol above 511, or the length.
-fn first_too_large(word: &[u16]) -> usize
-    ensures within { result ≤ length word.now }
-    ensures before { (k : ℕ) → k < result → slice_index word.now k < elements }
-    ensures found { result < length word.now → elements ≤ slice_index word.now result }
+/// The 450 symbols of a word, each an element.
+fn check(word: &[u16]) -> Result<&[u16; SYMBOLS], CodeFault>
+    ensures { MatchResult result
+        (λ symbols. (symbols.now ≡ word.now) × Word word.now)
+        (λ e. Misshapen word.now (code_refusal e)) }
 {
-    for (i, symbol) in word.iter().enumerate() {
-        if *symbol as usize >= ELEMENTS {
-            return i;
-        }
-    }
-    word.len()
-}
-
-/// Whether there are 450 symbols, each an element.
-fn check(word: &[u16]) -> Result<(), CodeFault>
-    ensures { MatchResult result (λ _. Word word.now) (λ e. Misshapen word.now (code_refusal e)) }
-{
-    if word.len() != SYMBOLS {
+    let Some(symbols) = word.as_array() else {
         return Err(CodeFault::Length);
+    };
+    match first_too_large(symbols) {
+        Some(place) => Err(CodeFault::SymbolTooLarge { place }),
+        None => Ok(symbols),
     }
-    let place = first_too_large(word);
-    if place < SYMBOLS {
-        return Err(CodeFault::SymbolTooLarge { place });
-    }
-    Ok(())
 }
 
 impl<A: Arithmetic> Code<A> {
@@ -71,18 +56,17 @@ impl<A: Arithmetic> Code<A> {
     pub fn new(arithmetic: A) -> Code<A>
         ensures over { result.arithmetic ≡ arithmetic }
     {
-        let tables = prepare(&arithmetic);
+        let tables = Tables::new(&arithmetic);
         Code { arithmetic, tables }
     }
 
     /// Writes the last 44 symbols so that the word is a codeword.
     pub fn complete(&self, word: &mut [u16]) -> Result<(), CodeFault>
         ensures completes { MatchResult result
-            (λ _. Completed (A.Arithmetic.field self.now.arithmetic) word.old word.new)
+            (λ _. Completed (A.field self.now.arithmetic) word.old word.new)
             (λ e. CompleteRefused word.old word.new (code_refusal e)) }
     {
-        check(word)?;
-        let register = divide(&self.arithmetic, &self.tables.rows, &word[..MESSAGE]);
+        let register = self.divide(check(word)?);
         word[MESSAGE..].copy_from_slice(&register);
         Ok(())
     }
@@ -90,27 +74,18 @@ impl<A: Arithmetic> Code<A> {
     /// Makes the word the codeword within 22 symbols, and answers how many symbols changed.
     pub fn repair(&self, word: &mut [u16]) -> Result<usize, CodeFault>
         ensures repairs { MatchResult result
-            (λ changed. Repaired (A.Arithmetic.field self.now.arithmetic) word.old word.new changed)
-            (λ e. RepairRefused (A.Arithmetic.field self.now.arithmetic) word.old word.new (code_refusal e)) }
+            (λ changed. Repaired (A.field self.now.arithmetic) word.old word.new changed)
+            (λ e. RepairRefused (A.field self.now.arithmetic) word.old word.new (code_refusal e)) }
     {
-        check(word)?;
-        let left = remainder(&self.arithmetic, &self.tables.rows, word);
+        let received = check(word)?;
+        let left = self.remainder(received);
         if is_zero(&left) {
             return Ok(0);
         }
-        let s = syndromes(&self.arithmetic, &self.tables.steps, &left);
-        let mended = candidate(
-            &self.arithmetic,
-            &self.tables.points,
-            &self.tables.steps,
-            &s,
-            word,
-        );
-        let changed = changes(word, &mended);
-        if changed > REACH {
-            return Err(CodeFault::BeyondRepair);
-        }
-        if !is_codeword(&self.arithmetic, &self.tables.rows, &mended) {
+        let s = self.syndromes(&left);
+        let mended = self.candidate(&s, received);
+        let changed = changes(received, &mended);
+        if changed > REACH || !is_zero(&self.remainder(&mended)) {
             return Err(CodeFault::BeyondRepair);
         }
         word.copy_from_slice(&mended);

@@ -2,7 +2,9 @@
 ghost use Rattle.std.specs.Prelude.{◌≡◌};
 ghost use Rattle.code.specs.Faults.{code_refusal};
 
-use refusal::{Layer, Refusal};
+use refusal::{Fault, Layer, Refusal};
+use std::error::Error;
+use std::fmt;
 
 /// Why a word is neither completed nor repaired.
 #[derive(Clone, Copy, PartialEq, Eq, Debug)]
@@ -15,9 +17,11 @@ pub enum CodeFault {
     BeyondRepair,
 }
 
-impl CodeFault {
-    /// The refusal that a caller is told.
-    pub fn refusal(self) -> Refusal
+impl Fault for CodeFault {
+    ghost told = { code_refusal };
+
+    fn refusal(self) -> Refusal
+        ensures number_layer_and_place { result ≡ code_refusal self }
         ensures told { result ≡ code_refusal self }
     {
         match self {
@@ -27,3 +31,22 @@ impl CodeFault {
         }
     }
 }
+
+impl fmt::Display for CodeFault {
+    ghost use Rattle.std.specs.Prelude.{Some};
+    ghost use Rattle.code.specs.Faults.{code_fault_text};
+
+    ghost output = { λ fault. Some (code_fault_text fault) };
+
+    fn fmt<W: fmt::Write>(&self, f: &mut fmt::Formatter<W>) -> fmt::Result {
+        match self {
+            CodeFault::Length => f.write_str("a word of the wrong length"),
+            CodeFault::SymbolTooLarge { place } => {
+                write!(f, "a symbol above 511 at place {place}")
+            }
+            CodeFault::BeyondRepair => f.write_str("no codeword within reach"),
+        }
+    }
+}
+
+impl Error for CodeFault {}

@@ -14,3 +14,4 @@ mod tables;
 
 pub use code::Code;
 pub use fault::CodeFault;
+pub use refusal::Fault;

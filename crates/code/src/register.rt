@@ -1,22 +1,14 @@
 //! The register of 44 symbols that divides a word by the generator polynomial.
-ghost use Rattle.std.specs.Prelude.{◌≡◌, ℕ, ◌<◌, true, length, slice_index};
+ghost use Rattle.std.specs.Prelude.{◌≡◌, ℕ, ◌<◌, true, take, slice_index};
 ghost use Rattle.arithmetic.specs.Laws.{power, elements};
-ghost use Rattle.code.specs.Words.{parity, word_length, Word, Codeword};
-ghost use Rattle.code.specs.Polynomials.{value, added, advanced};
-ghost use Rattle.code.specs.Prepared.{Multiples, Divided};
+ghost use Rattle.code.specs.Words.{parity, message_length};
+ghost use Rattle.code.specs.Polynomials.{value, advanced};
+ghost use Rattle.code.specs.Prepared.{Divided};
 
-use crate::sizes::{ELEMENTS, MESSAGE, PARITY};
+use crate::code::Code;
+use crate::sizes::{MESSAGE, PARITY, SYMBOLS};
 use arithmetic::Arithmetic;
-
-/// Moves the register up by one place and adds a row.
-pub(crate) fn advance<A: Arithmetic>(a: &A, register: &mut [u16; PARITY], row: &[u16; PARITY])
-    ensures { register.new ≡ advanced (A.Arithmetic.field a.now) register.old row.now }
-{
-    for k in 0..PARITY - 1 {
-        register[k] = a.sum(register[k + 1], row[k]);
-    }
-    register[PARITY - 1] = a.sum(0, row[PARITY - 1]);
-}
+use std::array;
 
 /// Moves the register up by two places, and adds a row after each move.
 pub(crate) fn advance_twice<A: Arithmetic>(
@@ -25,8 +17,10 @@ pub(crate) fn advance_twice<A: Arithmetic>(
     first: &[u16; PARITY],
     second: &[u16; PARITY],
 )
-    ensures { register.new ≡ advanced (A.Arithmetic.field a.now) (advanced (A.Arithmetic.field a.now) register.old first.now) second.now }
+    ensures { let f = A.field a.now in
+        register.new ≡ advanced f (advanced f register.old first.now) second.now }
 {
+    // Each place takes from two places ahead of it: an index is plainer than three slices that start apart.
     for k in 0..PARITY - 2 {
         register[k] = a.sum(a.sum(register[k + 2], first[k + 1]), second[k]);
     }
@@ -34,83 +28,41 @@ pub(crate) fn advance_twice<A: Arithmetic>(
     register[PARITY - 1] = a.sum(0, second[PARITY - 1]);
 }
 
-/// The 44 check symbols of a message, two symbols of it at a time.
-pub(crate) fn divide<A: Arithmetic>(
-    a: &A,
-    rows: &[[u16; PARITY]; ELEMENTS],
-    message: &[u16],
-) -> [u16; PARITY]
-    requires { Multiples (A.Arithmetic.field a.now) parity rows.now }
-    ensures small { (k : ℕ) → slice_index result k < elements }
-    ensures worth { Divided (A.Arithmetic.field a.now) parity message.now result }
-{
-    let mut register = [0u16; PARITY];
-    let mut i = 0;
-    while i + 1 < message.len() {
-        let k = a.sum(register[0], message[i]);
-        let first = &rows[k as usize];
-        let head = a.sum(register[1], first[0]);
-        let next = a.sum(head, message[i + 1]);
-        let second = &rows[next as usize];
-        advance_twice(a, &mut register, first, second);
-        i += 2;
-    }
-    if i < message.len() {
-        let last = a.sum(register[0], message[i]);
-        let row = &rows[last as usize];
-        advance(a, &mut register, row);
-    }
-    register
-}
-
-/// Adds the received check symbols to the register.
-pub(crate) fn add_row<A: Arithmetic>(a: &A, register: &mut [u16; PARITY], row: &[u16])
-    requires { length row.now ≡ parity }
-    ensures { register.new ≡ added (A.Arithmetic.field a.now) register.old row.now }
-{
-    for k in 0..PARITY {
-        register[k] = a.sum(register[k], row[k]);
-    }
-}
-
-/// A polynomial of degree below 44 with the values of a word at the first powers of alpha, from the highest coefficient.
-pub(crate) fn remainder<A: Arithmetic>(
-    a: &A,
-    rows: &[[u16; PARITY]; ELEMENTS],
-    word: &[u16],
-) -> [u16; PARITY]
-    requires full { length word.now ≡ word_length }
-    requires rows { Multiples (A.Arithmetic.field a.now) parity rows.now }
-    ensures small { (k : ℕ) → slice_index result k < elements }
-    ensures right { (j : ℕ) → j < parity → value (A.Arithmetic.field a.now) (power (A.Arithmetic.field a.now) (A.Arithmetic.field a.now).alpha j) result ≡ value (A.Arithmetic.field a.now) (power (A.Arithmetic.field a.now) (A.Arithmetic.field a.now).alpha j) word.now }
-{
-    let mut register = divide(a, rows, &word[..MESSAGE]);
-    add_row(a, &mut register, &word[MESSAGE..]);
-    register
-}
-
+/// Whether all coefficients are zero.
 pub(crate) fn is_zero(p: &[u16]) -> bool
     ensures zero { result ≡ true → (k : ℕ) → slice_index p.now k ≡ 0 }
     ensures only { ((k : ℕ) → slice_index p.now k ≡ 0) → result ≡ true }
 {
-    for c in p {
-        if *c != 0 {
-            return false;
-        }
-    }
-    true
+    p.iter().all(|c| *c == 0)
 }
 
-pub(crate) fn is_codeword<A: Arithmetic>(
-    a: &A,
-    rows: &[[u16; PARITY]; ELEMENTS],
-    word: &[u16],
-) -> bool
-    requires word { Word word.now }
-    requires rows { Multiples (A.Arithmetic.field a.now) parity rows.now }
-    ensures sound { result ≡ true → Codeword (A.Arithmetic.field a.now) word.now }
-    ensures complete { Codeword (A.Arithmetic.field a.now) word.now → result ≡ true }
-{
-    let left = remainder(a, rows, word);
-    is_zero(&left)
+impl<A: Arithmetic> Code<A> {
+    /// The 44 check symbols of the message that a word begins with, two symbols of it at a time.
+    pub(crate) fn divide(&self, word: &[u16; SYMBOLS]) -> [u16; PARITY]
+        ensures small { (k : ℕ) → slice_index result k < elements }
+        ensures worth { Divided (A.field self.now.arithmetic) parity (take message_length word.now) result }
+    {
+        let a = &self.arithmetic;
+        let (pairs, _) = word[..MESSAGE].as_chunks::<2>();
+        let mut register = [0u16; PARITY];
+        for [x, y] in pairs {
+            let k = a.sum(register[0], *x);
+            let first = &self.tables.rows[k as usize];
+            let head = a.sum(register[1], first[0]);
+            let next = a.sum(head, *y);
+            let second = &self.tables.rows[next as usize];
+            advance_twice(a, &mut register, first, second);
+        }
+        register
+    }
+
+    /// A polynomial of degree below 44 with the values of a word at the first powers of alpha, from the highest coefficient.
+    pub(crate) fn remainder(&self, word: &[u16; SYMBOLS]) -> [u16; PARITY]
+        ensures small { (k : ℕ) → slice_index result k < elements }
+        ensures right { let f = A.field self.now.arithmetic in
+            (j : ℕ) → j < parity → value f (power f f.alpha j) result ≡ value f (power f f.alpha j) word.now }
+    {
+        let register = self.divide(word);
+        array::from_fn(|k| self.arithmetic.sum(register[k], word[MESSAGE + k]))
+    }
 }

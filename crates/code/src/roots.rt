@@ -1,109 +1,68 @@
-//! The places at which a polynomial vanishes.
-ghost use Rattle.std.specs.Prelude.{◌≡◌, ℕ, ◌+◌, ◌<◌, ◌≤◌, [], length, take, filter, slice_index, slice_index_or};
-ghost use Rattle.arithmetic.specs.Laws.{power, elements};
-ghost use Rattle.code.specs.Words.{parity, reach, word_length, below};
+//! The places at which a polynomial vanishes (Chien's search), and the polynomial that vanishes just there.
+ghost use Rattle.std.specs.Prelude.{◌≡◌, ℕ, ◌+◌, ◌<◌, ◌≤◌, length, filter, slice_index};
+ghost use Rattle.std.specs.List.{AllByRecursion};
+ghost use Rattle.arithmetic.specs.Laws.{power};
+ghost use Rattle.code.specs.Words.{reach, word_length, below};
 ghost use Rattle.code.specs.Polynomials.{eval_monic, total};
-ghost use Rattle.code.specs.Prepared.{Powers, Steps, Vanishes};
-ghost use Rattle.code.specs.Locating.{poly, whole, Terms, found, place_point, zero_at};
+ghost use Rattle.code.specs.Locating.{poly, whole, Terms, zero_at};
 
-use crate::shapes::{Monic, Places};
-use crate::sizes::{ELEMENTS, PARITY, REACH, SYMBOLS, TERMS};
+use crate::code::Code;
+use crate::shapes::Monic;
+use crate::sizes::{REACH, SYMBOLS, TERMS};
 use crate::tables::times_root;
 use arithmetic::Arithmetic;
 
 /// The coefficients of a polynomial, which are its terms at the point 1.
-pub(crate) fn first_terms<A: Arithmetic>(a: &A, p: &Monic) -> [u16; TERMS]
-    requires { p.now.degree ≤ reach }
-    ensures { Terms (A.Arithmetic.field a.now) (whole p.now) 1 result }
+fn first_terms<A: Arithmetic>(a: &A, p: &Monic) -> [u16; TERMS]
+    ensures { Terms (A.field a.now) (whole p.now) 1 result }
 {
     let mut terms = [0u16; TERMS];
-    for k in 0..p.degree {
-        terms[k] = a.product(p.low[k], 1);
+    for (k, c) in p.low[..p.degree].iter().enumerate() {
+        terms[k] = a.product(*c, 1);
     }
     terms[p.degree] = a.product(1, 1);
     terms
 }
 
-/// The sum of the first terms.
-pub(crate) fn total_of<A: Arithmetic>(a: &A, terms: &[u16; TERMS], count: usize) -> u16
-    requires { count ≤ 23 }
-    ensures { result ≡ total (A.Arithmetic.field a.now) (take count terms.now) }
+/// The sum of terms.
+fn total_of<A: Arithmetic>(a: &A, terms: &[u16]) -> u16
+    ensures { result ≡ total (A.field a.now) terms.now }
 {
-    let mut i = count;
-    let mut sum = 0;
-    while i > 0 {
-        i -= 1;
-        sum = a.sum(terms[i], sum);
-    }
-    sum
+    terms.iter().fold(0, |sum, term| a.sum(sum, *term))
 }
 
-/// Looks each of the first terms up in its row.
-pub(crate) fn step_terms(steps: &[[u16; ELEMENTS]; PARITY], terms: &mut [u16; TERMS], count: usize)
-    requires few { count ≤ 23 }
-    requires fits { (k : ℕ) → k < count → slice_index terms.old k < elements }
-    ensures { (k : ℕ) → k < count → slice_index terms.new k ≡ slice_index (slice_index_or steps.now k []) (slice_index terms.old k) }
-{
-    for k in 0..count {
-        let row = &steps[k];
-        terms[k] = row[terms[k] as usize];
-    }
-}
-
-/// The values of a polynomial at the points of all places.
-pub(crate) fn values<A: Arithmetic>(
-    a: &A,
-    steps: &[[u16; ELEMENTS]; PARITY],
-    p: &Monic,
-) -> [u16; SYMBOLS]
-    requires steps { Steps (A.Arithmetic.field a.now) parity steps.now }
-    requires small { p.now.degree ≤ reach }
-    ensures { (i : ℕ) → i < word_length → slice_index result i ≡ eval_monic (A.Arithmetic.field a.now) (poly p.now) (power (A.Arithmetic.field a.now) (A.Arithmetic.field a.now).alpha i) }
-{
-    let mut terms = first_terms(a, p);
-    let count = p.degree + 1;
-    let mut values = [0u16; SYMBOLS];
-    for i in 0..SYMBOLS {
-        values[i] = total_of(a, &terms, count);
-        step_terms(steps, &mut terms, count);
-    }
-    values
-}
-
-/// The places at which the values are zero, from the highest.
-pub(crate) fn places(values: &[u16]) -> Places
-    requires { length (filter (zero_at values.now) (below (length values.now))) ≤ reach }
-    ensures few { result.count ≤ reach }
-    ensures small { (m : ℕ) → m < result.count → slice_index result.at m < length values.now }
-    ensures all { found result ≡ filter (zero_at values.now) (below (length values.now)) }
-{
-    let mut at = [0usize; REACH];
-    let mut count = 0;
-    let mut i = values.len();
-    while i > 0 {
-        i -= 1;
-        if values[i] == 0 {
-            at[count] = i;
-            count += 1;
+impl<A: Arithmetic> Code<A> {
+    /// The values of a polynomial at the points of all places.
+    pub(crate) fn values(&self, p: &Monic) -> [u16; SYMBOLS]
+        ensures { let f = A.field self.now.arithmetic in
+            (i : ℕ) → i < word_length → slice_index result i ≡ eval_monic f (poly p.now) (power f f.alpha i) }
+    {
+        let mut all = first_terms(&self.arithmetic, p);
+        let terms = &mut all[..p.degree + 1];
+        let mut values = [0u16; SYMBOLS];
+        for value in values.iter_mut() {
+            *value = total_of(&self.arithmetic, terms);
+            self.times_powers(terms);
         }
+        values
     }
-    Places { count, at }
-}
 
-/// The product of x + alpha^k over the places k.
-pub(crate) fn product_over<A: Arithmetic>(a: &A, points: &[u16; SYMBOLS], places: &Places) -> Monic
-    requires powers { Powers (A.Arithmetic.field a.now) points.now }
-    requires few { places.now.count ≤ reach }
-    requires small { (m : ℕ) → m < places.now.count → slice_index places.now.at m < word_length }
-    ensures degree { result.degree ≡ places.now.count }
-    ensures zeros { Vanishes (A.Arithmetic.field a.now) (place_point (A.Arithmetic.field a.now) places.now.at) places.now.count (poly result) }
-{
-    let mut low = [0u16; REACH];
-    for m in 0..places.count {
-        times_root(a, points[places.at[m]], &mut low, m);
-    }
-    Monic {
-        degree: places.count,
-        low,
+    /// The product of x + alpha^i over the places i at which the values are zero.
+    pub(crate) fn product_over_zeros(&self, values: &[u16; SYMBOLS]) -> Monic
+        requires { length (filter (zero_at values.now) (below (length values.now))) ≤ reach }
+        ensures degree { result.degree ≡ length (filter (zero_at values.now) (below (length values.now))) }
+        ensures zeros { let f = A.field self.now.arithmetic in
+            AllByRecursion (λ i. eval_monic f (poly result) (power f f.alpha i) ≡ 0)
+            (filter (zero_at values.now) (below (length values.now))) }
+    {
+        let mut low = [0u16; REACH];
+        let mut degree = 0;
+        for (value, point) in values.iter().zip(&self.tables.points) {
+            if *value == 0 {
+                times_root(&self.arithmetic, *point, &mut low, degree);
+                degree += 1;
+            }
+        }
+        Monic { degree, low }
     }
 }

@@ -1,4 +1,8 @@
 //! What a code holds, and what the search for a codeword works with.
+ghost use Rattle.std.specs.Prelude.{ℕ, ◌<◌, ◌≤◌};
+ghost use Rattle.arithmetic.specs.Laws.{elements};
+ghost use Rattle.code.specs.Words.{reach};
+ghost use Rattle.code.specs.Polynomials.{reads};
 
 use crate::sizes::{ELEMENTS, PARITY, REACH, SYMBOLS};
 
@@ -13,11 +17,21 @@ pub(crate) struct Tables {
     pub(crate) steps: [[u16; ELEMENTS]; PARITY],
 }
 
+// Words and registers stay plain arrays: a type that says each number is an element would be wrapped and unwrapped at each call.
+/// The sums 0 to 43 of a word.
+#[derive(Clone, Copy)]
+pub(crate) struct Syndromes {
+    pub(crate) sums: [u16; PARITY],
+    ghost small: { (j : ℕ) → reads sums j < elements },
+}
+
+// An ArrayVec is no plainer: it is no Copy, so each step clones it, and a shift and a sum are written into an array of zeros.
 /// A monic polynomial: its degree, and the coefficients below the leading 1, from the lowest.
 #[derive(Clone, Copy)]
 pub(crate) struct Monic {
     pub(crate) degree: usize,
     pub(crate) low: [u16; REACH],
+    ghost within: { degree ≤ reach },
 }
 
 /// How far the search for a locator has come.
@@ -27,11 +41,4 @@ pub(crate) struct Recurrence {
     pub(crate) windows: usize,
     pub(crate) previous: Monic,
     pub(crate) scale: u16,
-}
-
-/// Some places of a word.
-#[derive(Clone, Copy)]
-pub(crate) struct Places {
-    pub(crate) count: usize,
-    pub(crate) at: [usize; REACH],
 }

@@ -1,44 +1,50 @@
 //! The 44 sums of a word, from its remainder.
-ghost use Rattle.std.specs.Prelude.{◌≡◌, ℕ, ◌<◌, slice_index};
+ghost use Rattle.std.specs.Prelude.{◌≡◌, ℕ, ◌<◌, ◌≤◌, length, slice_index};
 ghost use Rattle.arithmetic.specs.Laws.{power, elements};
 ghost use Rattle.code.specs.Words.{parity};
 ghost use Rattle.code.specs.Polynomials.{value, reads};
-ghost use Rattle.code.specs.Prepared.{Steps};
 
-use crate::sizes::{ELEMENTS, PARITY};
+use crate::code::Code;
+use crate::shapes::Syndromes;
+use crate::sizes::PARITY;
 use arithmetic::Arithmetic;
 
-/// One step of Horner's rule at each of the first powers of alpha.
-pub(crate) fn horner_step<A: Arithmetic>(
-    a: &A,
-    steps: &[[u16; ELEMENTS]; PARITY],
-    totals: &mut [u16; PARITY],
-    c: u16,
-)
-    requires steps { Steps (A.Arithmetic.field a.now) parity steps.now }
-    requires fits { (j : ℕ) → j < parity → slice_index totals.old j < elements }
-    ensures small { (j : ℕ) → j < parity → slice_index totals.new j < elements }
-    ensures right { (j : ℕ) → j < parity → slice_index totals.new j ≡ (A.Arithmetic.field a.now).plus c ((A.Arithmetic.field a.now).times (power (A.Arithmetic.field a.now) (A.Arithmetic.field a.now).alpha j) (slice_index totals.old j)) }
-{
-    for j in 0..PARITY {
-        let row = &steps[j];
-        totals[j] = a.sum(c, row[totals[j] as usize]);
+impl<A: Arithmetic> Code<A> {
+    /// Multiplies the number at each place by alpha to the power of that place, by the table.
+    pub(crate) fn times_powers(&self, numbers: &mut [u16])
+        requires few { length numbers.old ≤ parity }
+        requires fits { (k : ℕ) → k < length numbers.old → slice_index numbers.old k < elements }
+        ensures { let f = A.field self.now.arithmetic in
+            (k : ℕ) → k < length numbers.old → slice_index numbers.new k ≡ f.times (power f f.alpha k) (slice_index numbers.old k) }
+    {
+        for (k, number) in numbers.iter_mut().enumerate() {
+            let row = &self.tables.steps[k];
+            *number = row[*number as usize];
+        }
     }
-}
 
-/// The values of a polynomial at the first powers of alpha, its coefficients from the highest.
-pub(crate) fn syndromes<A: Arithmetic>(
-    a: &A,
-    steps: &[[u16; ELEMENTS]; PARITY],
-    p: &[u16],
-) -> [u16; PARITY]
-    requires { Steps (A.Arithmetic.field a.now) parity steps.now }
-    ensures small { (j : ℕ) → reads result j < elements }
-    ensures right { (j : ℕ) → j < parity → reads result j ≡ value (A.Arithmetic.field a.now) (power (A.Arithmetic.field a.now) (A.Arithmetic.field a.now).alpha j) p.now }
-{
-    let mut s = [0u16; PARITY];
-    for c in p {
-        horner_step(a, steps, &mut s, *c);
+    /// One step of Horner's rule at each of the first powers of alpha.
+    fn horner_step(&self, totals: &mut [u16; PARITY], c: u16)
+        requires { (j : ℕ) → j < parity → slice_index totals.old j < elements }
+        ensures small { (j : ℕ) → j < parity → slice_index totals.new j < elements }
+        ensures right { let f = A.field self.now.arithmetic in
+            (j : ℕ) → j < parity → slice_index totals.new j ≡ f.plus c (f.times (power f f.alpha j) (slice_index totals.old j)) }
+    {
+        self.times_powers(totals);
+        for total in totals.iter_mut() {
+            *total = self.arithmetic.sum(c, *total);
+        }
     }
-    s
+
+    /// The sums of a word that has the values of a polynomial p, its coefficients from the highest.
+    pub(crate) fn syndromes(&self, p: &[u16; PARITY]) -> Syndromes
+        ensures { let f = A.field self.now.arithmetic in
+            (j : ℕ) → j < parity → reads result.sums j ≡ value f (power f f.alpha j) p.now }
+    {
+        let mut sums = [0u16; PARITY];
+        for c in p {
+            self.horner_step(&mut sums, *c);
+        }
+        Syndromes { sums }
+    }
 }

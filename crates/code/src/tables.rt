@@ -3,19 +3,23 @@ ghost use Rattle.std.specs.Prelude.{◌≡◌, ℕ, ◌+◌, ◌<◌, length, ta
 ghost use Rattle.arithmetic.specs.Laws.{power};
 ghost use Rattle.code.specs.Words.{parity};
 ghost use Rattle.code.specs.Polynomials.{value, eval, times_linear};
-ghost use Rattle.code.specs.Prepared.{Powers, Vanishes, Multiples, Steps};
+ghost use Rattle.code.specs.Prepared.{Powers, Vanishes, Multiples, Steps, Ready};
 
+use crate::shapes::Tables;
 use crate::sizes::{ELEMENTS, PARITY, SYMBOLS};
 use arithmetic::Arithmetic;
+use std::array;
 
-pub(crate) fn powers<A: Arithmetic>(a: &A) -> [u16; SYMBOLS]
-    ensures { Powers (A.Arithmetic.field a.now) result }
+// There is no code yet that could hold these facts of its tables, so that each function asks for those that it needs.
+
+fn powers<A: Arithmetic>(a: &A) -> [u16; SYMBOLS]
+    ensures { Powers (A.field a.now) result }
 {
     let mut points = [0u16; SYMBOLS];
     let alpha = a.alpha();
     let mut point = 1;
-    for i in 0..SYMBOLS {
-        points[i] = point;
+    for place in points.iter_mut() {
+        *place = point;
         point = a.product(alpha, point);
     }
     points
@@ -24,71 +28,84 @@ pub(crate) fn powers<A: Arithmetic>(a: &A) -> [u16; SYMBOLS]
 /// Multiplies the monic polynomial whose coefficients are the first d of p, from the lowest, by x + y.
 pub(crate) fn times_root<A: Arithmetic>(a: &A, y: u16, p: &mut [u16], d: usize)
     requires { d < length p.old }
-    ensures { take (d + 1) p.new ≡ times_linear (A.Arithmetic.field a.now) y 0 (take d p.old) }
+    ensures { take (d + 1) p.new ≡ times_linear (A.field a.now) y 0 (take d p.old) }
 {
     let mut carried = 0;
-    for i in 0..d {
-        let old = p[i];
-        p[i] = a.sum(carried, a.product(y, old));
+    for c in p[..d].iter_mut() {
+        let old = *c;
+        *c = a.sum(carried, a.product(y, old));
         carried = old;
     }
     p[d] = a.sum(carried, y);
 }
 
 /// The coefficients below the leading 1 of the product of x + alpha^j, from the lowest.
-pub(crate) fn generator<A: Arithmetic>(a: &A, points: &[u16; SYMBOLS]) -> [u16; PARITY]
-    requires { Powers (A.Arithmetic.field a.now) points.now }
-    ensures { Vanishes (A.Arithmetic.field a.now) (power (A.Arithmetic.field a.now) (A.Arithmetic.field a.now).alpha) parity result }
+fn generator<A: Arithmetic>(a: &A, points: &[u16; SYMBOLS]) -> [u16; PARITY]
+    requires { Powers (A.field a.now) points.now }
+    ensures { let f = A.field a.now in Vanishes f (power f f.alpha) parity result }
 {
     let mut g = [0u16; PARITY];
-    for j in 0..PARITY {
-        times_root(a, points[j], &mut g, j);
+    for (degree, point) in points[..PARITY].iter().enumerate() {
+        times_root(a, *point, &mut g, degree);
     }
     g
 }
 
 /// k times a polynomial, from the highest coefficient.
-pub(crate) fn multiple<A: Arithmetic>(a: &A, k: u16, g: &[u16; PARITY]) -> [u16; PARITY]
-    ensures { (x : ℕ) → value (A.Arithmetic.field a.now) x result ≡ (A.Arithmetic.field a.now).times k (eval (A.Arithmetic.field a.now) g.now x) }
+fn multiple<A: Arithmetic>(a: &A, k: u16, g: &[u16; PARITY]) -> [u16; PARITY]
+    ensures { let f = A.field a.now in (x : ℕ) → value f x result ≡ f.times k (eval f g.now x) }
 {
     let mut row = [0u16; PARITY];
-    for i in 0..PARITY {
-        row[PARITY - 1 - i] = a.product(k, g[i]);
+    for (i, c) in g.iter().enumerate() {
+        row[PARITY - 1 - i] = a.product(k, *c);
     }
     row
 }
 
+// These rows and those of `steps` are filled alike: one function for both sizes and facts has longer clauses than the loops.
+// Tried as `array::from_fn`: the closures ask for clauses of their own, for the cast of k and for what a row is.
 /// The multiples of the generator polynomial without its leading term.
-pub(crate) fn multiples<A: Arithmetic>(a: &A, g: &[u16; PARITY]) -> [[u16; PARITY]; ELEMENTS]
-    requires { Vanishes (A.Arithmetic.field a.now) (power (A.Arithmetic.field a.now) (A.Arithmetic.field a.now).alpha) parity g.now }
-    ensures { Multiples (A.Arithmetic.field a.now) parity result }
+fn multiples<A: Arithmetic>(a: &A, g: &[u16; PARITY]) -> [[u16; PARITY]; ELEMENTS]
+    requires { let f = A.field a.now in Vanishes f (power f f.alpha) parity g.now }
+    ensures { Multiples (A.field a.now) parity result }
 {
     let mut rows = [[0u16; PARITY]; ELEMENTS];
-    for k in 0..ELEMENTS {
-        rows[k] = multiple(a, k as u16, g);
+    for (k, row) in rows.iter_mut().enumerate() {
+        *row = multiple(a, k as u16, g);
     }
     rows
 }
 
 /// The products of an element and all elements.
-pub(crate) fn products<A: Arithmetic>(a: &A, x: u16) -> [u16; ELEMENTS]
-    ensures { (k : ℕ) → k < 512 → slice_index result k ≡ (A.Arithmetic.field a.now).times x k }
+fn products<A: Arithmetic>(a: &A, x: u16) -> [u16; ELEMENTS]
+    ensures { (k : ℕ) → k < 512 → slice_index result k ≡ (A.field a.now).times x k }
 {
-    let mut row = [0u16; ELEMENTS];
-    for k in 0..ELEMENTS {
-        row[k] = a.product(x, k as u16);
-    }
-    row
+    array::from_fn(|k| a.product(x, k as u16))
 }
 
 /// The products of the first powers of alpha and all elements.
-pub(crate) fn steps<A: Arithmetic>(a: &A, points: &[u16; SYMBOLS]) -> [[u16; ELEMENTS]; PARITY]
-    requires { Powers (A.Arithmetic.field a.now) points.now }
-    ensures { Steps (A.Arithmetic.field a.now) parity result }
+fn steps<A: Arithmetic>(a: &A, points: &[u16; SYMBOLS]) -> [[u16; ELEMENTS]; PARITY]
+    requires { Powers (A.field a.now) points.now }
+    ensures { Steps (A.field a.now) parity result }
 {
     let mut rows = [[0u16; ELEMENTS]; PARITY];
-    for j in 0..PARITY {
-        rows[j] = products(a, points[j]);
+    for (j, row) in rows.iter_mut().enumerate() {
+        *row = products(a, points[j]);
     }
     rows
+}
+
+impl Tables {
+    /// The tables of an arithmetic.
+    pub(crate) fn new<A: Arithmetic>(a: &A) -> Tables
+        ensures { Ready (A.field a.now) result.points result.rows result.steps }
+    {
+        let points = powers(a);
+        let g = generator(a, &points);
+        Tables {
+            rows: multiples(a, &g),
+            steps: steps(a, &points),
+            points,
+        }
+    }
 }

@@ -8,34 +8,33 @@ ghost use Rattle.code_c.specs.Batches.{word_at, Answered};
 use arithmetic::Tabled;
 use code::Code;
 
-/// What is answered in place of a number of symbols when a word is refused.
+/// The symbols of a word.
+const SYMBOLS: usize = 450;
+
+/// What is answered in place of a number of symbols when a word is refused: a caller in C gets a number for each word.
 const REFUSED: usize = 1000;
 
 /// Completes or repairs a word; answers how many symbols the repair changed.
 fn run_one(code: &Code<Tabled>, word: &mut [u16], completing: bool) -> usize
     ensures { Answered polynomials completing word.old word.new result }
 {
-    if completing {
-        return match code.complete(word) {
-            Ok(()) => 0,
-            Err(_) => REFUSED,
-        };
-    }
-    match code.repair(word) {
-        Ok(changed) => changed,
-        Err(_) => REFUSED,
-    }
+    let changed = if completing {
+        code.complete(word).map(|()| 0)
+    } else {
+        code.repair(word)
+    };
+    changed.unwrap_or(REFUSED)
 }
 
-/// Completes or repairs each word, and writes its answer at its place.
+/// Completes or repairs each word, and writes its answer at its place. A caller in C says by a bool which it is.
 #[unsafe(no_mangle)]
 pub extern "C" fn code_run_words(words: &mut [u16], answers: &mut [usize], completing: bool)
     ensures each { (k : ℕ) → k < length answers.old → 450 * k + 450 ≤ length words.old → Answered polynomials completing (word_at words.old k) (word_at words.new k) (slice_index answers.new k) }
 {
     let code = Code::new(Tabled);
-    let count = answers.len().min(words.len() / 450);
-    for k in 0..count {
-        let word = &mut words[450 * k..450 * k + 450];
-        answers[k] = run_one(&code, word, completing);
+    let count = answers.len().min(words.len() / SYMBOLS);
+    for (k, answer) in answers[..count].iter_mut().enumerate() {
+        let word = &mut words[SYMBOLS * k..SYMBOLS * k + SYMBOLS];
+        *answer = run_one(&code, word, completing);
     }
 }

@@ -4,9 +4,9 @@
 
 use arithmetic::{Shifting, Tabled};
 use code::{Code, CodeFault};
-use refusal::{Layer, Refusal};
+use refusal::{Fault, Refusal};
 use std::alloc::Global;
-use std::io::{BufRead, BufReader};
+use std::io::{self, BufRead, BufReader};
 
 /// The symbols of a line after its first word.
 fn symbols(heap: Global, line: &str) -> anyhow::Result<Vec<u16>> {
@@ -17,27 +17,21 @@ fn symbols(heap: Global, line: &str) -> anyhow::Result<Vec<u16>> {
     Ok(word)
 }
 
-fn show_refusal(rt: &HostRuntime, fault: CodeFault) -> anyhow::Result<()> {
+fn show_refusal(rt: &HostRuntime, fault: CodeFault) -> io::Result<()> {
     let Refusal {
         number,
         layer,
         place,
     } = fault.refusal();
-    let name = match layer {
-        Layer::Code => "code",
-        _ => "another layer",
-    };
-    println!(rt; "refused {number} {name} {place}")?;
-    Ok(())
+    println!(rt; "refused {number} {layer} {place}")
 }
 
-fn show_word(rt: &HostRuntime, word: &[u16]) -> anyhow::Result<()> {
+fn show_word(rt: &HostRuntime, word: &[u16]) -> io::Result<()> {
     print!(rt; "word")?;
     for symbol in word {
         print!(rt; " {symbol}")?;
     }
-    println!(rt; "")?;
-    Ok(())
+    println!(rt; "")
 }
 
 fn answer(
@@ -58,7 +52,8 @@ fn answer(
             Err(fault) => show_refusal(rt, fault)?,
         }
     }
-    show_word(rt, &word)
+    show_word(rt, &word)?;
+    Ok(())
 }
 
 fn main(rt: HostRuntime) -> anyhow::Result<()> {

@@ -1,25 +1,29 @@
-use Rattle.std.proofs.Common.{◌≡◌, get_or, arith}
+use Rattle.std.proofs.Common.{ℕ, List, length, ap, ◌∙◌, subst, arith}
 use native.Mathlib.Decide.{dec_lt}
 use Rattle.std.proofs.lemmas.List.{get_or_past}
+use Rattle.code.specs.Faults.{FirstTooLarge}
 use Rattle.code.specs.Faults.Misshapen.{not_full, too_large}
+use Rattle.code.specs.Words.{Word}
 use Rattle.code.proofs.code.check.Goals as goal
 
-pub returns-then-word-ne-SYMBOLS : goal.returns-then-word-ne-SYMBOLS
-returns-then-word-ne-SYMBOLS c = not_full c.if-word-ne-SYMBOLS.true
+pub returns-in_default : goal.returns-in_default
+returns-in_default c = not_full c.in_default.ensures.cases
 
-pub returns-then-place-lt-SYMBOLS : goal.returns-then-place-lt-SYMBOLS
-returns-then-place-lt-SYMBOLS c = too_large c.first_too_large-place.result (record {
-  full = c.if-word-ne-SYMBOLS.false;
-  within = c.if-place-lt-SYMBOLS.true;
-  above = c.first_too_large-place.ensures.found (omega arith);
-  before = c.first_too_large-place.ensures.before;
-})
+pub returns-in-Some-first_too_large : goal.returns-in-Some-first_too_large
+returns-in-Some-first_too_large c =
+    let First : List ℕ → Type 0 = λ w. FirstTooLarge w c.in-Some-first_too_large.place in
+    too_large _ (subst First c.in-Some.ensures.cases.same c.in-Some-first_too_large.ensures)
 
-pub returns : goal.returns
-returns c = record {
-  full = c.if-word-ne-SYMBOLS.false;
-  small = λ i. elim (dec_lt i 450) [
-    | yes h ↦ c.first_too_large-place.ensures.before i (omega arith)
-    | no h ↦ (let e : get_or c.args.word.now i 0 ≡ 0 = get_or_past c.args.word.now i 0 (omega arith) in omega arith)
-  ];
-}
+pub returns-in-None : goal.returns-in-None
+returns-in-None c =
+    let w = c.in-Some.symbols.now in
+    let same = c.in-Some.ensures.cases.same in
+    let full = ap length same ∙ c.in-Some.ensures.cases.long in
+    let word : Word w = record {
+      full = full;
+      small = λ i. elim (dec_lt i 450) [
+        | yes h ↦ c.in-None.ensures i h
+        | no h ↦ (let none = get_or_past w i 0 (omega arith) in omega arith)
+      ];
+    } in
+    (same, subst Word same word)

@@ -1,14 +1,7 @@
 use Rattle.std.proofs.Common.{◌≡◌, ◌<◌, ◌++◌, length, take, drop, sym, ap, ◌∙◌, arith}
 use Rattle.code.specs.Polynomials.{plus_monic}
-use Rattle.code.proofs.Recurrences.{plus_step, plus_end}
+use Rattle.code.proofs.Recurrences.{plus_end}
 use Rattle.code.proofs.locator.add_multiple.Goals as goal
-
-pub loop-i-preserved : goal.loop-i-preserved
-loop-i-preserved g c =
-    let f = g.A.Arithmetic.field c.args.a.now in
-    let q = c.loop-i.q in
-    let h : c.loop-i.i < length q = omega arith in
-    plus_step f c.args.k c.args.p.now q c.loop-i.i c.sum.result c.loop-i-test.true h (cc (c.sum.ensures.value, c.product.ensures.value)) ∙ c.loop-i.invariant
 
 pub returns : goal.returns
 returns g c =

@@ -1,31 +1,14 @@
-use Rattle.std.proofs.Common.{◌≡◌, ◌+◌, ◌≤◌, cond, [], length, get_or, drop, ap, ◌∙◌, arith, eq-eqb, ne_eqb}
-use Rattle.std.proofs.lemmas.List.{drop_all}
-use Rattle.code.specs.Words.{distance}
-use Rattle.code.proofs.Distances.{count_more}
+use Rattle.std.proofs.Common.{not, eqb, sym, ◌∙◌, rules}
+use borrow.Author.Tests.{tests}
+use Rattle.std.proofs.lemmas.Iterator.{YieldsList-from_slice, YieldsList-from_zip}
+use Rattle.std.proofs.lemmas.Iterator.Consumers.{YieldsList-from_filter, count_from_yields_List}
+use Rattle.code.proofs.Distances.{distance_zip}
 use Rattle.code.proofs.mending.changes.Goals as goal
-use Rattle.code.proofs.mending.changes.Goals.{then-u-i, else-u-i}
-
-pub loop-i-preserved : goal.loop-i-preserved
-loop-i-preserved c =
-    let u = c.args.u.now in
-    let v = c.args.v.now in
-    let i = c.loop-i.i in
-    let rest = distance (drop (i + 1) u) (drop (i + 1) v) in
-    let more = count_more u v i c.loop-i-test.true c.requires in
-    elim c.if-u-i.branch [
-      | then-u-i w ↦ (let one : distance (drop i u) (drop i v) ≡ 1 + rest = more ∙ ap (λ b. cond b 0 1 + rest) (ne_eqb (get_or u i 0) (get_or v i 0) w.if-u-i.true) in
-          (omega (arith, w.count-is), omega (arith, w.count-is, c.loop-i.invariant.1, one)))
-      | else-u-i w ↦ (let none : distance (drop i u) (drop i v) ≡ 0 + rest = more ∙ ap (λ b. cond b 0 1 + rest) (eq-eqb (get_or u i 0) (get_or v i 0) w.if-u-i.false) in
-          (omega (arith, w.count-is), omega (arith, w.count-is, c.loop-i.invariant.1, none)))
-    ]
 
 pub returns : goal.returns
-unfolding distance
 returns c =
     let u = c.args.u.now in
     let v = c.args.v.now in
-    let i = c.loop-i.i in
-    let past : length u ≤ i = c.loop-i-test.false in
-    let long : length v ≤ i = omega (arith, c.requires) in
-    let none : distance (drop i u) (drop i v) ≡ 0 = ap (λ x. distance x (drop i v)) (drop_all i u past) ∙ ap (distance []) (drop_all i v long) in
-    omega (arith, c.loop-i.invariant.1, none)
+    count_from_yields_List _ _ c.count.ensures.ran
+    (YieldsList-from_filter _ (λ p. not (eqb p.0 p.1)) (YieldsList-from_zip (YieldsList-from_slice u cc) (YieldsList-from_slice v (let e = c.zip.ensures.second.0 in cc))) c.filter.ensures.closure (λ x b q k. search (rules, tests)))
+    ∙ distance_zip u v (c.told-u ∙ sym c.told-v)

@@ -1,22 +1,8 @@
-use Rattle.std.proofs.Common.{◌≡◌, ℕ, ◌+◌, ◌<◌, ◌≢◌, length, get_or, set, sym, ap, ◌∙◌, subst, arith, length-set, below_more}
+use Rattle.std.proofs.Common.{◌≡◌, ℕ, ◌+◌, length, get_or, set, sym, ap, ◌∙◌, subst, arith, length-set}
 use native.Mathlib.Decide.{ℕ_discrete}
 use Rattle.std.proofs.lemmas.List.{get_or-set_same, get_or-set_other, get_or_past}
 use Rattle.code.proofs.Registers.{twice_all}
 use Rattle.code.proofs.register.advance_twice.Goals as goal
-
-pub loop-k-preserved : goal.loop-k-preserved
-loop-k-preserved g c =
-    let f = g.A.Arithmetic.field c.args.a.now in
-    let k = c.loop-k.k in
-    let r = c.loop-k.register in
-    let v = c.sum-in-loop-k.result in
-    let lt : k < length r = omega arith in
-    let here = c.sum-in-loop-k.ensures.value ∙ ap (λ z. f.plus z (get_or c.args.second.now k 0)) (c.sum.ensures.value ∙ ap (λ z. f.plus z (get_or c.args.first.now (k + 1) 0)) (c.loop-k.invariant.1 (k + 2) (omega arith))) in (
-      below_more _ _
-          (λ i h. let ne : i ≢ k = omega arith in get_or-set_other r k i v 0 ne ∙ c.loop-k.invariant.0 i h)
-          (get_or-set_same r k v 0 lt ∙ here),
-      λ i h. let ne : i ≢ k = omega arith in get_or-set_other r k i v 0 ne ∙ c.loop-k.invariant.1 i (omega arith),
-    )
 
 pub returns : goal.returns
 returns g c =

@@ -1,5 +1,5 @@
-use Rattle.std.proofs.Common.{◌≡◌, ◌+◌, ◌-◌, ◌<◌, length, drop, set, sym, refl, ap, ◌∙◌, arith, length-set, take_all}
-use Rattle.code.specs.Polynomials.{value, eval}
+use Rattle.std.proofs.Common.{◌≡◌, ◌+◌, ◌-◌, ◌<◌, length, drop, set, sym, refl, ap, ◌∙◌, arith, length-set}
+use Rattle.code.specs.Polynomials.{value}
 use Rattle.code.proofs.Basic.{times_zero_right}
 use Rattle.code.proofs.Values.{multiple_turn}
 use Rattle.code.proofs.tables.multiple.Goals as goal
@@ -19,11 +19,3 @@ loop-i-preserved g c =
           ap (λ n. value f x (drop (44 - (i + 1)) (set c.loop-i.row n c.product.result))) e
           ∙ multiple_turn (g.met.A.Arithmetic.lawful c.args.a.now) x c.args.k c.args.g.now c.loop-i.row 44 i c.product.result h lg c.loop-i.invariant.0 c.product.ensures.value (c.loop-i.invariant.1 x),
     )
-
-pub returns : goal.returns
-returns g c = λ x.
-    let f = g.A.Arithmetic.field c.args.a.now in
-    let d : 44 - c.loop-i.i ≡ 0 = omega arith in
-    ap (λ i. value f x (drop i c.loop-i.row)) (sym d)
-    ∙ c.loop-i.invariant.1 x
-    ∙ ap (λ p. f.times c.args.k (eval f p x)) (take_all c.loop-i.i c.args.g.now (omega arith))

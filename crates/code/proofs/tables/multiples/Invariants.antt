@@ -5,4 +5,4 @@ use Rattle.code.proofs.tables.multiples.Given as goal
 abbrev pub invariant-loop-k : goal.invariant-loop-k
 invariant-loop-k g l =
     let f = g.A.Arithmetic.field l.a in
-    (length l.rows ≡ 512) × ((i : ℕ) → i < l.k → (length (get_or l.rows i []) ≡ 44) × ((x : ℕ) → value f x (get_or l.rows i []) ≡ f.times i (eval f l.g x)))
+    (length l.row-items ≡ 512) × ((i : ℕ) → i < l.k → (length (get_or l.row-items i []) ≡ 44) × ((x : ℕ) → value f x (get_or l.row-items i []) ≡ f.times i (eval f l.g x)))

@@ -1,8 +1,8 @@
-use Rattle.std.proofs.Common.{◌≡◌, ℕ, ◌<◌, length, get_or}
+use Rattle.std.proofs.Common.{◌≡◌, ℕ, ◌<◌, get_or}
 use Rattle.arithmetic.specs.Laws.{power}
 use Rattle.code.proofs.tables.powers.Given as goal
 
-abbrev pub invariant-loop-i : goal.invariant-loop-i
-invariant-loop-i g l =
+abbrev pub invariant-loop-place : goal.invariant-loop-place
+invariant-loop-place g l =
     let f = g.A.Arithmetic.field l.a in
-    (length l.points ≡ 450) × (l.point ≡ power f f.alpha l.i) × ((j : ℕ) → j < l.i → get_or l.points j 0 ≡ power f f.alpha j)
+    (l.point ≡ power f f.alpha l.place-index) × ((j : ℕ) → j < l.place-index → get_or l.place-items j 0 ≡ power f f.alpha j)

@@ -1,15 +1,8 @@
-use Rattle.std.proofs.Common.{◌<◌, ◌≢◌, length, arith, length-set, get_or-set_other, get_or-set_same, below_more}
+use Rattle.std.proofs.Common.{◌≡◌, ℕ, ◌<◌, get_or, arith, rules}
+use Rattle.code.proofs.Filled.{made_with}
 use Rattle.code.proofs.tables.products.Goals as goal
 
-pub loop-k-preserved : goal.loop-k-preserved
-loop-k-preserved g c =
-    let k = c.loop-k.k in
-    let lt : k < length c.loop-k.row = omega arith in (
-      simp length-set c.loop-k.invariant.0,
-      below_more _ _
-          (λ j h. let ne : j ≢ k = omega arith in rw get_or-set_other (c.loop-k.invariant.1 j h))
-          (rw get_or-set_same c.product.ensures.value),
-    )
-
 pub returns : goal.returns
-returns g c = λ k h. c.loop-k.invariant.1 k (omega arith)
+returns g c = λ k h.
+    let f = g.A.Arithmetic.field c.args.a.now in
+    made_with _ (λ j y. j < 512 → y ≡ f.times c.args.x j) _ c.from_fn.result 0 0 512 c.from_fn.ensures.items.each (λ j y q r. search rules) k (omega arith) (omega arith) h

@@ -1,0 +1,49 @@
+use Rattle.std.proofs.Common.{◌≡◌, ℕ, suc, ◌+◌, ◌<◌, ◌≤◌, ◌∷◌, [], length, get_or, refl, sym, ap, ◌∙◌, subst, add-one, arith, length-append, length-set}
+use Rattle.std.proofs.lemmas.List.{get_or-take, length-take-le}
+use Rattle.arithmetic.specs.Laws.{power}
+use Rattle.code.specs.Polynomials.{eval_monic}
+use Rattle.code.specs.Locating.{poly, whole, Terms}
+use Rattle.code.proofs.Filled.{filled_more}
+use Rattle.code.proofs.Places.{total_value, next_term}
+use Rattle.code.proofs.code.Code.values.Goals as goal
+
+pub loop-value-init : goal.loop-value-init
+loop-value-init g c =
+    let p = c.args.p.now in
+    let all = c.first_terms-all.result in
+    let n = p.degree + 1 in
+    let room : n ≤ length all = omega arith in
+    let size : length (whole p) ≤ n = omega (arith, length-append (poly p) (1 ∷ []), length-take-le p.degree p.low) in (
+      refl,
+      length-take-le n all room,
+      λ k h. (let b : k < n = omega arith in let same = get_or-take n all k 0 b in
+          (omega (arith, (c.first_terms-all.ensures k h).0), same ∙ (c.first_terms-all.ensures k h).1)),
+      λ j h. absurd (omega arith),
+    )
+
+pub loop-value-preserved : goal.loop-value-preserved
+loop-value-preserved g c =
+    let f = g.A.Arithmetic.field c.args.self.now.arithmetic in
+    let laws = g.met.A.Arithmetic.lawful c.args.self.now.arithmetic in
+    let p = c.args.p.now in
+    let i = c.loop-value.value-index in
+    let x = power f f.alpha i in
+    let terms = c.loop-value.terms in
+    let new = c.times_powers.new.numbers in
+    let lt : length terms ≡ p.degree + 1 = c.loop-value.invariant.1 in
+    let long : length (poly p) ≡ p.degree = length-take-le p.degree p.low (omega arith) in
+    let size : length (whole p) ≡ p.degree + 1 = omega (arith, length-append (poly p) (1 ∷ [])) in
+    let here : c.total_of.result ≡ eval_monic f (poly p) x = c.total_of.ensures ∙ total_value laws (poly p) terms x (lt ∙ sym size) c.loop-value.invariant.2 in
+    let next : Terms f (whole p) (power f f.alpha (suc i)) new = λ k h.
+    let inside : k < length terms = omega arith in
+    let old = c.loop-value.invariant.2 k h in
+    let e : get_or new k 0 ≡ f.times (power f f.alpha k) (get_or terms k 0) = c.times_powers.ensures k inside in
+    let below = laws.times_below (power f f.alpha k) (get_or terms k 0) in
+    (omega arith, e ∙ ap (f.times (power f f.alpha k)) old.1 ∙ next_term laws (get_or (whole p) k 0) k i) in
+    let T : ℕ → Type 0 = λ m. Terms f (whole p) (power f f.alpha m) new in
+    let filled = filled_more (λ j y. y ≡ eval_monic f (poly p) (power f f.alpha j)) c.loop-value.value-items 0 c.total_of.result i (omega (arith, c.loop-value-test.true)) c.loop-value.invariant.3 here in (
+      simp length-set c.loop-value.invariant.0,
+      omega (arith, c.times_powers.auto.numbers),
+      subst T (sym (add-one i)) next,
+      filled,
+    )

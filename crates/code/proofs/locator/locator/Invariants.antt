@@ -1,9 +1,0 @@
-use Rattle.std.proofs.Common.{◌+◌, ◌-◌}
-use Rattle.code.specs.Locating.{Found}
-use Rattle.code.proofs.locator.locator.Given as goal
-
-abbrev pub invariant-loop-r : goal.invariant-loop-r
-invariant-loop-r g l = Found (g.A.Arithmetic.field l.a) l.s l.r
-
-abbrev pub decreases-loop-r : goal.decreases-loop-r
-decreases-loop-r g l = 44 - (l.r.windows + l.r.current.degree)
