@@ -1,5 +1,5 @@
 -- How a call comes to answer by its rule. Assumes nothing.
-use Rattle.std.proofs.Common.{◌≡◌, ℕ, ◌+◌, false, cond, List, [], ◌∷◌, Some, sym, refl, ap, ◌∙◌, subst, arith}
+use Rattle.std.proofs.Common.{◌≡◌, ℕ, false, cond, List, [], ◌∷◌, Some, sym, refl, ap, ◌∙◌, subst, arith}
 use Rattle.std.specs.List.{AllByRecursion}
 use Rattle.codec.specs.Calls.{Call, faults, first_of, is_period, periods_of, lock_after, Performs, Answers}
 use Rattle.codec.specs.Ends.{End, Later}
@@ -26,7 +26,7 @@ first_early [] fault a e = let z : ◌≡◌ {A = ℕ} 0 1 = cc in absurd (omega
 first_early (f ∷ more) fault a e = let same : f ≡ fault = cc in subst (λ x. is_period (Refused x) ≡ false) same a.0
 
 -- a call refused before it was a period
-pub no_period : (lock : Lock) (asked : Call) (fault : EndFault) → first_of (faults lock asked) ≡ Some fault → is_period (Refused fault) ≡ false
+no_period : (lock : Lock) (asked : Call) (fault : EndFault) → first_of (faults lock asked) ≡ Some fault → is_period (Refused fault) ≡ false
 no_period lock asked fault e = first_early (faults lock asked) fault (early lock asked) e
 
 pub stands_still : (end : End) (lock : Lock) (asked : Call) (fault : EndFault) → first_of (faults lock asked) ≡ Some fault → Later (periods_of (Refused fault)) end end
@@ -37,7 +37,3 @@ stands_still end lock asked fault e =
 -- the lock of a receiver that refused before a period
 pub lock_still : (lock : Lock) (asked : Call) (fault : EndFault) → first_of (faults lock asked) ≡ Some fault → lock_after lock (Refused fault) ≡ lock
 lock_still lock asked fault e = rw (no_period lock asked fault e)
-
--- a period later
-pub period_later : (before after : End) → after.field ≡ before.field → ((k : ℕ) → after.mask k ≡ before.mask (450 + k)) → after.pair ≡ before.pair → Later 1 before after
-period_later before after f m p = record { arithmetic = f; masks = m; code = p }

@@ -5,7 +5,7 @@ use Rattle.std.proofs.lemmas.List.{take_at, drop_at, drop-drop, drop_all}
 use Rattle.code.specs.Words.{distance}
 use Rattle.code.proofs.Distances.{count_more}
 use Rattle.codec.specs.Lines.{line_group, line_from, same, group, unequal, differing}
-use Rattle.codec.specs.Hearing.{upward}
+use Rattle.codec.specs.Demapping.{upward}
 use Rattle.codec.proofs.Groups.{length_group}
 
 -- line frames

@@ -1,26 +1,21 @@
 -- What a word carries, and what is then told of it.
-use Rattle.std.proofs.Common.{◌≡◌, ℕ, zero, suc, ◌+◌, ◌*◌, ◌/◌, ◌%◌, ◌^◌, ◌<◌, ◌⊎◌, List, [], ◌∷◌, ◌++◌, length, get_or, take, drop, replicate, Some, None, Ok, Err, Option, Result, sym, refl, ap, ◌∙◌, subst, inl, inr, div-one, arith}
+use Rattle.std.proofs.Common.{◌≡◌, ℕ, zero, suc, ◌+◌, ◌*◌, ◌/◌, ◌%◌, ◌^◌, ◌<◌, List, [], ◌∷◌, ◌++◌, length, get_or, take, drop, Some, None, Option, sym, refl, ap, ◌∙◌, subst, div-one, arith}
 use native.Mathlib.Nat.{pow-succ'}
 use Rattle.std.proofs.lemmas.Nat.{shr-shr}
 use Rattle.std.proofs.lemmas.List.{length-drop, get_or-take, get_or_push, take_at, take-append-drop, nil_from_length}
 use Rattle.blocks.specs.Bits.{packed, unpacked}
-use Rattle.blocks.specs.Blocks.{block_of, Encodes, EncodesNone, InvalidField}
+use Rattle.blocks.specs.Blocks.{block_of, Encodes}
 use Rattle.blocks.specs.Characters.{Characters}
 use Rattle.blocks.specs.Faults.{block_refusal}
-use Rattle.blocks.specs.Steps.{reading}
-use Rattle.blocks.specs.declared.faults.BlockFault.{BlockFault}
-use Rattle.blocks.proofs.Inverse.{starts}
-use Rattle.blocks.proofs.Invalid as invalid
 use Rattle.blocks.proofs.NeverBoth.{never_both}
-use Rattle.blocks.proofs.Packing.{Bits, bits_drop, bits_unpacked, length_packed, packed_below}
+use Rattle.blocks.proofs.Packing.{length_packed}
 use Rattle.codec.specs.Frames.{block_bits, block_from, ten_at, blocks_bits, message_of, block_at, symbol_of}
 use Rattle.codec.specs.Reports.{Contains, FirstFault, FrameTold}
 use Rattle.codec.specs.declared.faults.FrameFault.{FrameFault}
 use Rattle.blocks.proofs.Invalid.{Octets}
-use Rattle.codec.proofs.FrameSymbols.{eleven_octets}
 use Rattle.codec.proofs.FrameBits.{eleven_of, header_of, octets_of, back_from_symbols, block_at_is, symbols_at, ten_later, message_is}
 use Rattle.codec.proofs.FrameWriting.{ten_long, ten_characters}
-use Rattle.codec.proofs.FrameReading.{in_front, refused}
+use Rattle.codec.proofs.FrameReading.{in_front}
 
 -- as many characters are the same where each ten of them are
 
@@ -94,27 +89,3 @@ told_clean characters handed word symbol invalid fault c t = (
   where
     valid : (k : ℕ) → k < 45 → Contains invalid k → ⊥
     valid k l d = (t.blocks k l).invalid_when_none.0 d (ten_at characters k) (c.encodes k l)
-
--- a block of a word encodes ten characters, or has an invalid field and encodes none
-
-abbrev pub EncodesOrInvalid : List ℕ → Type 0
-EncodesOrInvalid block = ((cs : List ℕ) × Encodes block cs) ⊎ ((fault : BlockFault) × InvalidField block (block_refusal fault) × EncodesNone block)
-
-pub encodes_or_invalid : (block : List ℕ) → length block ≡ 11 → Octets block → get_or block 0 0 < 2 → EncodesOrInvalid block
-encodes_or_invalid block h o b = go (reading (starts (get_or block 0 0)) 0 (drop 1 block)) refl
-  where
-    go : (r : Result (List ℕ) BlockFault) → reading (starts (get_or block 0 0)) 0 (drop 1 block) ≡ r → EncodesOrInvalid block
-    go (Ok cs) e = inl (cs, (invalid.encoded block cs (starts (get_or block 0 0)) h o b refl (sym e)).0)
-    go (Err fault) e =
-        let both = refused block (replicate 10 0) (block_refusal fault) h refl (invalid.refused block (replicate 10 0) (starts (get_or block 0 0)) fault h refl o b refl (sym e)) in
-        inr (fault, both.0, both.1)
-
-octets_from : (bs : List ℕ) → Bits bs → Octets (block_from bs)
-octets_from bs h zero = omega (arith, h 0)
-octets_from bs h (suc k) = packed_below 8 10 (drop 1 bs) (bits_drop 1 bs h) k
-
-pub block_of_word : (word : List ℕ) (k : ℕ) → EncodesOrInvalid (block_at word k)
-block_of_word word k =
-    let bs : List ℕ = unpacked 9 (take 9 (drop (9 * k) word)) in
-    let are : Bits bs = bits_unpacked 9 (take 9 (drop (9 * k) word)) in
-    subst EncodesOrInvalid (sym (block_at_is word k)) (encodes_or_invalid (block_from bs) (eleven_octets bs) (octets_from bs are) (are 0))

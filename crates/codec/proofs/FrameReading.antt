@@ -1,18 +1,19 @@
 -- The blocks of a word, read one after another.
-use Rattle.std.proofs.Common.{◌≡◌, ℕ, suc, ◌+◌, ◌-◌, ◌*◌, ◌/◌, ◌%◌, ◌^◌, ◌<◌, ◌≤◌, true, false, List, ◌++◌, length, take, drop, replicate, is_some, Some, None, Option, sym, refl, ap, ◌∙◌, subst, inl, inr, arith, length-take, below_more}
+use Rattle.std.proofs.Common.{◌≡◌, ℕ, suc, ◌+◌, ◌-◌, ◌*◌, ◌/◌, ◌%◌, ◌^◌, ◌<◌, ◌≤◌, List, ◌++◌, length, take, drop, replicate, Some, None, Option, sym, refl, ap, ◌∙◌, subst, inl, inr, arith, length-take, below_more}
 use native.Mathlib.Nat.{div-eq_of_lt, add-mul-div_left, pow-succ', add-div_right}
 use borrow.Rule.Slice.PartMut.{put_mid}
 use Rattle.std.proofs.lemmas.Nat.{pow_pos, pow-add, one_shl}
 use Rattle.std.proofs.lemmas.List.{length-append, length-take-le, length-drop, get_or-take, get_or-drop, get_or_past, take-take, drop-take}
 use Rattle.std.proofs.lemmas.Slice.{take-put_mid_below, between-put_mid}
-use Rattle.std.proofs.lemmas.Bool.{cases_lt, both_ways}
+use Rattle.std.proofs.lemmas.Bool.{cases_lt}
+use Rattle.std.specs.Option.{option_or}
 use Rattle.refusal.specs.declared.kinds.Refusal.{Refusal}
 use Rattle.blocks.specs.Bits.{unpacked}
 use Rattle.blocks.specs.Blocks.{EncodesOnly, EncodesNone, InvalidField, ReadRefused}
 use Rattle.blocks.specs.Faults.{block_refusal}
 use Rattle.blocks.specs.declared.faults.BlockFault.{BlockFault}
 use Rattle.codec.specs.Frames.{block_from, block_at, ten_at}
-use Rattle.codec.specs.Numbering.{numbered, TenErrors}
+use Rattle.codec.specs.Numbering.{TenErrors}
 use Rattle.codec.specs.Reports.{Contains, BlockTold, FrameTold}
 use Rattle.codec.specs.declared.faults.FrameFault.{FrameFault}
 use Rattle.codec.proofs.FrameSymbols.{Small, eleven_octets}
@@ -20,12 +21,12 @@ use Rattle.codec.proofs.FrameBits.{block_at_is}
 
 -- one block
 
-pub refused : (block was : List ℕ) (why : Refusal) → length block ≡ 11 → length was ≡ 10 → ReadRefused block was why → InvalidField block why × EncodesNone block
+refused : (block was : List ℕ) (why : Refusal) → length block ≡ 11 → length was ≡ 10 → ReadRefused block was why → InvalidField block why × EncodesNone block
 refused block was why h l (ReadRefused.input_length n) = absurd (n h)
 refused block was why h l (ReadRefused.output_length m n) = absurd (n l)
 refused block was why h l (ReadRefused.invalid_field m n i e) = (i, e)
 
-pub ten_errors : (k : ℕ) (bs block was ten : List ℕ) (fault : BlockFault) (found : FrameFault) → block ≡ block_from bs → length was ≡ 10 → ReadRefused block was (block_refusal fault) → ten ≡ replicate 10 257 → found ≡ numbered (k, fault) → TenErrors k (block_from bs) ten found
+pub ten_errors : (k : ℕ) (bs block was ten : List ℕ) (fault : BlockFault) (found : FrameFault) → block ≡ block_from bs → length was ≡ 10 → ReadRefused block was (block_refusal fault) → ten ≡ replicate 10 257 → found ≡ record { block = k; fault = fault } → TenErrors k (block_from bs) ten found
 ten_errors k bs block was ten fault found b l r t f =
     let both = refused (block_from bs) was (block_refusal fault) (eleven_octets bs) l (subst (λ x. ReadRefused x was (block_refusal fault)) b r) in
     record { none = both.1; errors = t; number = ap (λ x. x.block) f; field = subst (λ x. InvalidField (block_from bs) (block_refusal x.fault)) (sym f) both.0 }
@@ -86,9 +87,6 @@ pub record ToldOf (word characters : List ℕ) (n invalid : ℕ) (fault : Option
   pub no_further : invalid < 2 ^ n
   pub first : FirstOf word n fault
 
-pub told_none : (word characters : List ℕ) → length characters ≡ 450 → ToldOf word characters 0 0 None
-told_none word characters h = record { full = h; blocks = λ k l. absurd (omega arith); no_further = omega arith; first = λ k l. absurd (omega arith) }
-
 same_told : (invalid more k : ℕ) (block ten : List ℕ) → more / 2 ^ k % 2 ≡ invalid / 2 ^ k % 2 → BlockTold invalid k block ten → BlockTold more k block ten
 same_told invalid more k block ten e t = record {
   invalid_when_none = ((λ c. t.invalid_when_none.0 (sym e ∙ c)), (λ n. e ∙ t.invalid_when_none.1 n));
@@ -125,12 +123,7 @@ told_valid word characters ten k n invalid fault h m t (e, o) =
     (omega (arith, added_fits invalid k t.no_further))
     (first_kept word k fault (λ none. none ten e) t.first)
 
--- the earlier of two faults
-abbrev pub earlier : Option FrameFault → FrameFault → Option FrameFault
-earlier None found = Some found
-earlier (Some first) found = Some first
-
-first_found : (word ten : List ℕ) (k : ℕ) (fault : Option FrameFault) (found : FrameFault) → TenErrors k (block_at word k) ten found → FirstOf word k fault → FirstOf word (k + 1) (earlier fault found)
+first_found : (word ten : List ℕ) (k : ℕ) (fault : Option FrameFault) (found : FrameFault) → TenErrors k (block_at word k) ten found → FirstOf word k fault → FirstOf word (k + 1) (option_or fault (Some found))
 first_found word ten k None found e t = (
   omega (arith, e.number),
   subst (λ j. InvalidField (block_at word j) (block_refusal found.fault)) (sym e.number) e.field,
@@ -139,34 +132,25 @@ first_found word ten k None found e t = (
 first_found word ten k (Some first) found e (l, i, b) = (omega arith, i, b)
 
 -- an invalid block
-pub told_invalid : (word characters ten : List ℕ) (k n invalid : ℕ) (fault : Option FrameFault) (found : FrameFault) → k < 45 → n ≡ 10 → ToldOf word characters k invalid fault → TenErrors k (block_at word k) ten found → ToldOf word (put_mid (10 * k) n characters ten) (k + 1) (invalid + 2 ^ k) (earlier fault found)
+pub told_invalid : (word characters ten : List ℕ) (k n invalid : ℕ) (fault : Option FrameFault) (found : FrameFault) → k < 45 → n ≡ 10 → ToldOf word characters k invalid fault → TenErrors k (block_at word k) ten found → ToldOf word (put_mid (10 * k) n characters ten) (k + 1) (invalid + 2 ^ k) (option_or fault (Some found))
 told_invalid word characters ten k n invalid fault found h m t e =
     let there : Contains (invalid + 2 ^ k) k = added_there invalid k t.no_further in
-    told_more word characters ten k n invalid (invalid + 2 ^ k) fault (earlier fault found) h m (ap length e.errors) t (λ j i. added_below invalid k j i)
+    told_more word characters ten k n invalid (invalid + 2 ^ k) fault (option_or fault (Some found)) h m (ap length e.errors) t (λ j i. added_below invalid k j i)
     (record { invalid_when_none = ((λ c. e.none), (λ none. there)); errors = λ c. e.errors; otherwise = λ c. absurd (c there) })
     (added_fits invalid k t.no_further)
     (first_found word ten k fault found e t.first)
 
 -- the same, as the reading call has them
+module _ (word characters nine ten : List ℕ) (k n invalid : ℕ) (fault : Option FrameFault) (within : k < 45) (part : nine ≡ take 9 (drop (9 * k) word)) (long : n ≡ 10) (told : ToldOf word characters k invalid fault) where
+  block_part : block_from (unpacked 9 nine) ≡ block_at word k
+  block_part = ap (λ l. block_from (unpacked 9 l)) part ∙ sym (block_at_is word k)
 
-block_part : (word : List ℕ) (k m : ℕ) → m ≡ 9 → block_from (unpacked 9 (take m (drop (9 * k) word))) ≡ block_at word k
-block_part word k m e = ap (λ n. block_from (unpacked 9 (take n (drop (9 * k) word)))) e ∙ sym (block_at_is word k)
+  pub read_valid : EncodesOnly (block_from (unpacked 9 nine)) ten → ToldOf word (put_mid (10 * k) n characters ten) (k + 1) invalid fault
+  read_valid e = told_valid word characters ten k n invalid fault within long told (subst (λ b. EncodesOnly b ten) block_part e)
 
-pub read_valid : (word characters ten : List ℕ) (k m n invalid more : ℕ) (fault later : Option FrameFault) → k < 45 → m ≡ 9 → n ≡ 10 → ToldOf word characters k invalid fault → EncodesOnly (block_from (unpacked 9 (take m (drop (9 * k) word)))) ten → more ≡ invalid → later ≡ fault → ToldOf word (put_mid (10 * k) n characters ten) (k + 1) more later
-read_valid word characters ten k m n invalid more fault later h l p t e i f =
-    rw (i, f) (told_valid word characters ten k n invalid fault h p t (subst (λ b. EncodesOnly b ten) (block_part word k m l) e))
-
-pub read_invalid : (word characters ten : List ℕ) (k m n invalid more : ℕ) (fault later : Option FrameFault) (found : FrameFault) → k < 45 → m ≡ 9 → n ≡ 10 → ToldOf word characters k invalid fault → TenErrors k (block_from (unpacked 9 (take m (drop (9 * k) word)))) ten found → more ≡ invalid + (1 * 2 ^ k) % 2 ^ 64 → later ≡ earlier fault found → ToldOf word (put_mid (10 * k) n characters ten) (k + 1) more later
-read_invalid word characters ten k m n invalid more fault later found h l p t e i f =
-    rw (i ∙ ap (λ x. invalid + x) (one_shl k 64 (omega arith)), f) (told_invalid word characters ten k n invalid fault found h p t (subst (λ b. TenErrors k b ten found) (block_part word k m l) e))
-
-pub first_fault : (fault later : Option FrameFault) (found : FrameFault) → is_some fault ≡ false → later ≡ Some found → later ≡ earlier fault found
-first_fault None later found n e = e
-first_fault (Some first) later found n e = absurd (both_ways true n refl)
-
-pub later_fault : (fault later : Option FrameFault) (found : FrameFault) → is_some fault ≡ true → later ≡ fault → later ≡ earlier fault found
-later_fault None later found n e = absurd (both_ways false refl n)
-later_fault (Some first) later found n e = e
+  pub read_invalid : (found : FrameFault) (more : ℕ) → TenErrors k (block_from (unpacked 9 nine)) ten found → more ≡ invalid + (1 * 2 ^ k) % 2 ^ 64 → ToldOf word (put_mid (10 * k) n characters ten) (k + 1) more (option_or fault (Some found))
+  read_invalid found more e i =
+      rw (i ∙ ap (λ x. invalid + x) (one_shl k 64 (omega (arith, within)))) (told_invalid word characters ten k n invalid fault found within long told (subst (λ b. TenErrors k b ten found) block_part e))
 
 pub told_all : (word characters : List ℕ) (invalid : ℕ) (fault : Option FrameFault) → ToldOf word characters 45 invalid fault → FrameTold word characters invalid fault
 told_all word characters invalid None t = record { full = t.full; blocks = t.blocks; no_further = t.no_further; first = t.first }

@@ -1,32 +1,23 @@
 -- The word that a frame is written into, block after block.
-use Rattle.std.proofs.Common.{◌≡◌, ℕ, zero, suc, ◌+◌, ◌-◌, ◌*◌, ◌<◌, ◌≤◌, List, [], ◌∷◌, ◌++◌, length, get_or, take, drop, set, replicate, Ok, Err, Result, sym, refl, ap, ◌∙◌, subst, append_assoc, arith, length-set, MatchResult}
+use Rattle.std.proofs.Common.{◌≡◌, ℕ, zero, suc, ◌+◌, ◌-◌, ◌*◌, ◌<◌, List, [], ◌∷◌, ◌++◌, length, get_or, take, drop, set, replicate, map, sym, refl, ap, ◌∙◌, append_assoc, arith, length-set}
 use borrow.Rule.Slice.PartMut.{put_mid}
-use Rattle.std.proofs.lemmas.List.{length-append, length-replicate, length-take-le, length-drop, get_or-take, get_or-drop, set-append_right, take_at, drop_at, drop-replicate}
-use Rattle.refusal.specs.declared.kinds.Refusal.{Refusal}
+use Rattle.std.specs.List.{take-map, drop-map}
+use Rattle.std.proofs.lemmas.List.{length-append, length-take-le, length-drop, get_or-take, get_or-drop, set-append_right, take_at, drop_at, drop-replicate}
 use Rattle.blocks.specs.Bits.{packed}
-use Rattle.blocks.specs.Blocks.{block_of, Encodes, WriteRefused}
+use Rattle.blocks.specs.Blocks.{block_of}
 use Rattle.blocks.specs.Characters.{Characters}
-use Rattle.blocks.specs.Faults.{block_refusal}
-use Rattle.blocks.specs.declared.faults.BlockFault.{BlockFault}
+use Rattle.blocks.specs.Numbers.{number_of}
+use Rattle.blocks.specs.declared.character.Character.{Character}
 use Rattle.blocks.proofs.Packing.{length_packed, packed_below, take_past}
 use Rattle.code.specs.Words.{Word}
 use Rattle.codec.specs.Frames.{block_bits, ten_at, blocks_bits, message_of}
 use Rattle.codec.proofs.FrameSymbols.{Small}
 use Rattle.codec.proofs.FrameBits.{symbols_more, bits_blocks_bits, message_is}
 
--- ten characters are written
-
-not_refused : (cs block : List ℕ) (why : Refusal) → WriteRefused cs block why → length cs ≡ 10 → length block ≡ 11 → Characters cs → ⊥
-not_refused cs block why (WriteRefused.input_length h) l m cs_are = h l
-not_refused cs block why (WriteRefused.output_length h i) l m cs_are = i m
-not_refused cs block why (WriteRefused.no_character {k} h i f) l m cs_are = f.there (cs_are k f.inside)
+-- ten characters of a frame
 
 pub ten_long : (cs : List ℕ) (k : ℕ) → length cs ≡ 450 → k < 45 → length (ten_at cs k) ≡ 10
 ten_long cs k l h = length-take-le 10 (drop (10 * k) cs) (omega (arith, length-drop (10 * k) cs))
-
-written : {X : Type 0} (r : Result X BlockFault) (cs block left : List ℕ) → MatchResult r (λ _. Encodes left cs) (λ e. WriteRefused cs block (block_refusal e)) → length cs ≡ 10 → length block ≡ 11 → Characters cs → left ≡ block_of cs
-written (Ok x) cs block left h l m cs_are = h.makes
-written (Err e) cs block left h l m cs_are = absurd (not_refused cs block (block_refusal e) h l m cs_are)
 
 pub ten_characters : (cs : List ℕ) (k : ℕ) → length cs ≡ 450 → Characters cs → k < 45 → Characters (ten_at cs k)
 ten_characters cs k l cs_are h i b =
@@ -34,9 +25,8 @@ ten_characters cs k l cs_are h i b =
     let e : get_or (ten_at cs k) i 0 ≡ get_or cs (10 * k + i) 0 = get_or-take 10 (drop (10 * k) cs) i 0 (omega arith) ∙ get_or-drop (10 * k) cs i 0 in
     rw e (cs_are (10 * k + i) (omega arith))
 
-pub written_ten : {X : Type 0} (r : Result X BlockFault) (cs block left : List ℕ) (k n : ℕ) → n ≡ 10 → k < 45 → length cs ≡ 450 → Characters cs → length block ≡ 11 → MatchResult r (λ _. Encodes left (take n (drop (10 * k) cs))) (λ e. WriteRefused (take n (drop (10 * k) cs)) block (block_refusal e)) → left ≡ block_of (ten_at cs k)
-written_ten r cs block left k n m h l cs_are b w =
-    written r (ten_at cs k) block left (subst (λ i. MatchResult r (λ _. Encodes left (take i (drop (10 * k) cs))) (λ e. WriteRefused (take i (drop (10 * k) cs)) block (block_refusal e))) m w) (ten_long cs k l h) b (ten_characters cs k l cs_are h)
+pub ten_numbers : (cs ten : List Character) (k : ℕ) → ten ≡ take 10 (drop (10 * k) cs) → map number_of ten ≡ ten_at (map number_of cs) k
+ten_numbers cs ten k e = ap (map number_of) e ∙ sym (take-map number_of 10 (drop (10 * k) cs)) ∙ ap (take 10) (sym (drop-map number_of (10 * k) cs))
 
 -- the symbols of the first k blocks, and zeros
 
@@ -60,11 +50,6 @@ written_more cs k n word ys h m e f =
     ∙ ap (λ t. front ++ (ys ++ t)) (drop-replicate 9 (450 - 9 * k) 0 ∙ ap (λ i. replicate i 0) left)
     ∙ sym (append_assoc front ys (replicate (450 - 9 * (k + 1)) 0))
     ∙ ap (λ t. t ++ replicate (450 - 9 * (k + 1)) 0) (ap (λ t. front ++ t) f ∙ sym (symbols_more k cs))
-
-pub written_length : (cs : List ℕ) (k : ℕ) (word : List ℕ) → k ≤ 45 → Written cs k word → length word ≡ 450
-written_length cs k word h e =
-    ap length e ∙ length-append (packed 9 (9 * k) (blocks_bits k cs)) (replicate (450 - 9 * k) 0)
-    ∙ omega (arith, length_packed 9 (9 * k) (blocks_bits k cs), length-replicate {A = ℕ} (450 - 9 * k) 0)
 
 whole : (cs : List ℕ) (symbol : ℕ) (word : List ℕ) → Written cs 45 word → set word 405 symbol ≡ packed 9 405 (blocks_bits 45 cs) ++ symbol ∷ replicate 44 0
 whole cs symbol word e =

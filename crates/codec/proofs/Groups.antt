@@ -1,13 +1,14 @@
 -- Groups of six line symbols: the three pairs of a scrambled symbol, and the symbol back. Assumes nothing.
-use Rattle.std.proofs.Common.{◌≡◌, ℕ, ◌+◌, ◌*◌, ◌/◌, ◌%◌, ◌<◌, Bool, true, false, not, ◌&&◌, ◌||◌, T, eqb, List, [], ◌∷◌, length, get_or, ℤ, pos, negsuc, sym, refl, ap, ◌∙◌, arith, w8, SFits, to_z, of_z, eqb-true}
+use Rattle.std.proofs.Common.{◌≡◌, ℕ, ◌+◌, ◌*◌, ◌/◌, ◌%◌, ◌<◌, Bool, true, false, not, ◌&&◌, T, eqb, List, [], ◌∷◌, length, get_or, set, Some, None, Option, ℤ, pos, negsuc, sym, refl, ap, ◌∙◌, arith, w8, SFits, to_z, of_z, eqb-true}
 use Rattle.std.proofs.lemmas.Int.{ints, to_z-of_z}
 use borrow.Author.Tests.{eqb-false}
 use lib.Bits.{bit_xor, xor_assoc, xor_self, xor_zero_r, xor_lt}
 use lib.Signed.{le_z}
+use Rattle.std.specs.Option.{option_eq}
 use Rattle.blocks.specs.Bits.{bits, number, packed}
 use Rattle.lines.specs.LineCodes.{is_line_symbol, LinePair}
 use Rattle.codec.specs.Lines.{pairs, line_group, same}
-use Rattle.codec.specs.Hearing.{HeardGroup}
+use Rattle.codec.specs.Demapping.{Descrambled}
 
 -- different words write different pairs
 abbrev pub Distinct : (ℕ → ℤ × ℤ) → Type 0
@@ -59,6 +60,10 @@ six_list (a ∷ b ∷ c ∷ d ∷ []) h = absurd (omega arith)
 six_list (a ∷ b ∷ c ∷ d ∷ e ∷ []) h = absurd (omega arith)
 six_list (a ∷ b ∷ c ∷ d ∷ e ∷ f ∷ []) h = refl
 six_list (a ∷ b ∷ c ∷ d ∷ e ∷ f ∷ x ∷ xs) h = absurd (omega arith)
+
+-- six writes over six
+pub six_set : (six : List ℤ) (a b c d e f : ℤ) → length six ≡ 6 → set (set (set (set (set (set six 0 a) 1 b) 2 c) 3 d) 4 e) 5 f ≡ a ∷ b ∷ c ∷ d ∷ e ∷ f ∷ []
+six_set six a b c d e f h = ap (λ l. set (set (set (set (set (set l 0 a) 1 b) 2 c) 3 d) 4 e) 5 f) (sym (six_list six h))
 
 -- three words below 8 make a symbol, whose group has their pairs
 pub group_of_words : (pair : ℕ → ℤ × ℤ) (low middle high : ℕ) → low < 8 → middle < 8 → high < 8 → line_group pair (low + 8 * middle + 64 * high) ≡ six_of pair low middle high
@@ -177,15 +182,12 @@ same_of_unequal a b n = go (same a b) refl
     go true e = absurd (n (same_equal a b e))
     go false e = e
 
--- a group differs from that of a symbol exactly when it was unread or heard as another symbol
-pub heard_test : (pair : ℕ → ℤ × ℤ) → Distinct pair → (mask : ℕ) (six : List ℤ) (symbol v : ℕ) (unread : Bool) → mask < 512 → v < 512 → HeardGroup pair mask six symbol unread
-    → not (same six (line_group pair (bit_xor v mask))) ≡ unread || not (eqb symbol v)
-heard_test pair distinct mask six symbol v true m h heard = ap not (same_of_unequal _ _ (λ e. heard.none refl v h (sym e)))
-heard_test pair distinct mask six symbol v false m h heard = go (eqb symbol v) refl
+-- a group differs from that of a symbol exactly when it is erased or carries another symbol
+pub changed_test : (pair : ℕ → ℤ × ℤ) → Distinct pair → (mask : ℕ) (six : List ℤ) (symbol : Option ℕ) (v : ℕ) → mask < 512 → v < 512 → Descrambled pair mask six symbol
+    → not (same six (line_group pair (bit_xor v mask))) ≡ not (option_eq eqb symbol (Some v))
+changed_test pair distinct mask six None v m h erased = ap not (same_of_unequal _ _ (λ e. erased v h (sym e)))
+changed_test pair distinct mask six (Some c) v m h (small, read) = go (eqb c v) refl
   where
-    read : line_group pair (bit_xor symbol mask) ≡ six
-    read = heard.right refl
-
-    go : (t : Bool) → eqb symbol v ≡ t → not (same six (line_group pair (bit_xor v mask))) ≡ not t
-    go true e = ap not (same_of_equal _ _ (sym read ∙ ap (λ c. line_group pair (bit_xor c mask)) (eqb-true symbol v e)))
-    go false e = ap not (same_of_unequal _ _ (λ f. eqb-false symbol v e (scrambled_same pair distinct symbol v mask heard.small h m (read ∙ f))))
+    go : (t : Bool) → eqb c v ≡ t → not (same six (line_group pair (bit_xor v mask))) ≡ not t
+    go true e = ap not (same_of_equal _ _ (sym read ∙ ap (λ c. line_group pair (bit_xor c mask)) (eqb-true c v e)))
+    go false e = ap not (same_of_unequal _ _ (λ f. eqb-false c v e (scrambled_same pair distinct c v mask small h m (read ∙ f))))

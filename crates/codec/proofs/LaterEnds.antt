@@ -10,6 +10,9 @@ use Rattle.codec.specs.declared.lock.Lock.{Lock}
 use Rattle.codec.specs.declared.request.Outcome.{Outcome}
 use Rattle.codec.specs.declared.request.Outcome.TheVariants.{Refused}
 
+pub no_later : (end : End) → Later 0 end end
+no_later end = record { arithmetic = refl; masks = λ k. ap end.mask (omega arith); code = refl }
+
 -- the masks from two places on are the same
 line_shift : (pair : ℕ → ℤ × ℤ) (mask other : ℕ → ℕ) (j m : ℕ) (word : List ℕ) → ((k : ℕ) → mask (j + k) ≡ other (m + k)) → line_from pair mask j word ≡ line_from pair other m word
 unfolding line_from

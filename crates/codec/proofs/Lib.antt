@@ -12,7 +12,6 @@ pub mod Nearness
 pub mod LineFrames
 pub mod Answered
 pub mod Faulted
-pub mod Padding
 pub mod Answering
 pub mod OneCall
 pub mod LaterEnds

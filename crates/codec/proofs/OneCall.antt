@@ -1,7 +1,7 @@
 -- One call of a run, from what the end's own call ensures. Assumes nothing.
-use Rattle.std.proofs.Common.{◌≡◌, ℕ, false, List, [], ◌∷◌, ℤ, sym, refl, ap, ◌∙◌, arith}
+use Rattle.std.proofs.Common.{◌≡◌, ℕ, false, List, [], ◌∷◌, ℤ, sym, ap, ◌∙◌}
 use Rattle.std.specs.List.{AllByRecursion}
-use Rattle.codec.specs.Calls.{Call, send, sender_rest, receive, receiver_rest, faults, is_period, periods_of, lock_after, Performs, Answers}
+use Rattle.codec.specs.Calls.{Call, send, sender_rest, receiver_rest, faults, is_period, periods_of, lock_after, Performs, Answers}
 use Rattle.codec.specs.Ends.{End, Later}
 use Rattle.codec.specs.Locks.{new_lock}
 use Rattle.codec.specs.Turning.{Turned, standing}
@@ -10,9 +10,7 @@ use Rattle.codec.specs.declared.lock.Lock.{Lock}
 use Rattle.codec.specs.declared.request.Outcome.{Outcome}
 use Rattle.codec.specs.declared.request.Outcome.TheVariants.{Done, Refused}
 use Rattle.codec.proofs.Answered.{early}
-
-no_later : (end : End) → Later 0 end end
-no_later end = record { arithmetic = refl; masks = λ k. ap end.mask (omega arith); code = refl }
+use Rattle.codec.proofs.LaterEnds.{no_later}
 
 -- a call that is no receive leaves the lock
 still : (X : Type 0) (found : List EndFault) (asked left : Call) (outcome : Outcome) (lock : Lock) → AllByRecursion (λ f. is_period (Refused f) ≡ false) found → (X → outcome ≡ Done)
@@ -20,34 +18,31 @@ still : (X : Type 0) (found : List EndFault) (asked left : Call) (outcome : Outc
 still X [] asked left outcome lock a d h = sym (ap (lock_after lock) (d h))
 still X (fault ∷ more) asked left outcome lock a d h = sym (ap (lock_after lock) h.1 ∙ rw a.0)
 
-module _ (S S' R R' : End) (lock lock' : Lock) (outcome : Outcome) where
-  pub sent : (characters : List ℕ) (symbol : ℕ) (line : List ℤ) (left : Call) → Answers S 0 new_lock (send characters symbol line) left outcome → Later (periods_of outcome) S S'
+module _ {S S' R : End} {lock : Lock} {outcome : Outcome} where
+  pub sent : {characters : List ℕ} {symbol : ℕ} {line : List ℤ} {left : Call} → Answers S 0 new_lock (send characters symbol line) left outcome → Later (periods_of outcome) S S'
       → Turned (standing S R lock) (send characters symbol line) left outcome (standing S' R lock)
   unfolding faults
-  sent characters symbol line left a l = record {
+  sent {characters} {symbol} {line} {left} a l = record {
     answers = a;
     sender_later = l;
     receiver_later = no_later R;
     lock_later = still (Performs S 0 (send characters symbol line) left outcome) (faults new_lock (send characters symbol line)) (send characters symbol line) left outcome lock (early new_lock (send characters symbol line)) (λ p. p.3) a;
   }
 
-  pub rested : (line : List ℤ) (left : Call) → Answers S 0 new_lock (sender_rest line) left outcome → Later (periods_of outcome) S S'
+  pub rested : {line : List ℤ} {left : Call} → Answers S 0 new_lock (sender_rest line) left outcome → Later (periods_of outcome) S S'
       → Turned (standing S R lock) (sender_rest line) left outcome (standing S' R lock)
   unfolding faults
-  rested line left a l = record {
+  rested {line} {left} a l = record {
     answers = a;
     sender_later = l;
     receiver_later = no_later R;
     lock_later = still (Performs S 0 (sender_rest line) left outcome) (faults new_lock (sender_rest line)) (sender_rest line) left outcome lock (early new_lock (sender_rest line)) (λ p. p.1) a;
   }
 
-  pub received : (line : List ℤ) (characters places : List ℕ) (left : Call) → Answers R 0 lock (receive line characters places) left outcome → Later (periods_of outcome) R R' → lock' ≡ lock_after lock outcome
-      → Turned (standing S R lock) (receive line characters places) left outcome (standing S R' lock')
-  received line characters places left a l m = record { answers = a; sender_later = no_later S; receiver_later = l; lock_later = m }
-
-  pub receiver_rested : (left : Call) → Answers R 0 lock receiver_rest left outcome → Later (periods_of outcome) R R' → lock' ≡ lock
+module _ {S R R' : End} {lock lock' : Lock} {outcome : Outcome} where
+  pub receiver_rested : {left : Call} → Answers R 0 lock receiver_rest left outcome → Later (periods_of outcome) R R' → lock' ≡ lock
       → Turned (standing S R lock) receiver_rest left outcome (standing S R' lock')
-  receiver_rested left a l m = record {
+  receiver_rested {left} a l m = record {
     answers = a;
     sender_later = no_later S;
     receiver_later = l;

@@ -1,15 +1,15 @@
 -- A run, call by call. Assumes nothing.
-use Rattle.std.proofs.Common.{◌≡◌, ℕ, ◌+◌, ◌<◌, ◌≤◌, Bool, true, false, cond, not, ◌&&◌, ◌⊎◌, List, [], ◌∷◌, ◌++◌, length, get_or, take, drop, set, count_by, sym, refl, ap, ◌∙◌, subst, ap₂, inl, inr, arith, length-set, length-take, take_all, drop-set-lt}
-use Rattle.std.proofs.lemmas.List.{take_more, take_more_set, drop_more}
+use Rattle.std.proofs.Common.{◌≡◌, ℕ, ◌+◌, ◌<◌, ◌≤◌, Bool, true, false, cond, not, ◌&&◌, ◌⊎◌, List, [], ◌∷◌, ◌++◌, length, get_or, take, drop, set, count_by, sym, refl, ap, ◌∙◌, subst, ap₂, inl, inr, arith, length-set, take_all, drop-set-lt}
+use Rattle.std.proofs.lemmas.List.{take_more, take_more_set, drop_more, length-take-le}
 use Rattle.std.proofs.lemmas.List.Sums.{fold_push}
 use Rattle.codec.specs.Calls.{Call, Answers, content, is_period, lock_after}
-use Rattle.codec.specs.Ends.{End, Later}
+use Rattle.codec.specs.Ends.{Later}
 use Rattle.codec.specs.Histories.{Event, Occurs, history, at_sender, sender_periods, receiver_periods, lock_from}
 use Rattle.codec.specs.Law.{EveryCallAnswers}
 use Rattle.codec.specs.Turning.{Turned, Standing, sender_period, receiver_period}
 use Rattle.codec.specs.declared.lock.Lock.{Lock}
 use Rattle.codec.specs.declared.request.Turn.{Turn}
-use Rattle.codec.proofs.LaterEnds.{answers_here, later_on}
+use Rattle.codec.proofs.LaterEnds.{no_later, answers_here, later_on}
 
 abbrev event_of : Turn → Turn → Event
 event_of before after = record { asked = content before.request; left = content after.request; outcome = after.outcome }
@@ -60,16 +60,13 @@ pub record Come (start : Standing) (events : List Event) (here : Standing) : Typ
   pub receiver : Later (receiver_periods events) start.receiver here.receiver
   pub lock : here.lock ≡ lock_from start.lock events
 
-not_yet : (end : End) → Later 0 end end
-not_yet end = record { arithmetic = refl; masks = λ k. ap end.mask (omega arith); code = refl }
-
 none_occurs : (ahead : List Event) (event : Event) → Occurs [] ahead event → ⊥
 none_occurs [] event (later, e) = let z : ◌≡◌ {A = ℕ} 0 1 = cc in omega arith
 none_occurs (a ∷ ahead) event (later, e) = let z : ◌≡◌ {A = ℕ} 0 1 = cc in omega arith
 
 pub come_none : (start : Standing) → Come start [] start
 unfolding sender_periods receiver_periods lock_from
-come_none start = record { answers = λ ahead event o. absurd (none_occurs ahead event o); sender = not_yet start.sender; receiver = not_yet start.receiver; lock = refl }
+come_none start = record { answers = λ ahead event o. absurd (none_occurs ahead event o); sender = no_later start.sender; receiver = no_later start.receiver; lock = refl }
 
 -- what a call answers where the run has come to, it answers by the rule of the start
 module _ (start here : Standing) (events : List Event) (c : Come start events here) (asked left : Call) where
@@ -105,25 +102,22 @@ pub record SoFar (start : Standing) (xs : List Turn) (i : ℕ) (ys : List Turn) 
   pub rest : drop i ys ≡ drop i xs
   pub come : Come start (history (take i xs) (take i ys)) here
 
-pub so_far_none : (start : Standing) (xs : List Turn) → SoFar start xs 0 xs start
-so_far_none start xs = record { long = refl; rest = refl; come = come_none start }
+pub so_far_none : {start : Standing} {xs : List Turn} → SoFar start xs 0 xs start
+so_far_none {start} {xs} = record { long = refl; rest = refl; come = come_none start }
 
-length_taken : {X : Type 0} (i : ℕ) (xs : List X) → i ≤ length xs → length (take i xs) ≡ i
-length_taken i xs h = omega (arith, length-take i xs)
-
-pub so_far_more : (start here there : Standing) (xs ys : List Turn) (i : ℕ) (b a : Turn) → i < length xs → SoFar start xs i ys here → b ≡ get_or ys i b
+pub so_far_more : {start here there : Standing} (xs ys : List Turn) (i : ℕ) (b a : Turn) → i < length xs → SoFar start xs i ys here → b ≡ get_or ys i b
     → Turned here (content b.request) (content a.request) a.outcome there → SoFar start xs (i + 1) (set ys i a) there
-so_far_more start here there xs ys i b a h s e t =
+so_far_more {start} {here} {there} xs ys i b a h s e t =
     let n : i < length ys = omega (arith, s.long) in
     let was : b ≡ get_or xs i b = e ∙ head_of i ys xs b n h s.rest in
     let before : take (i + 1) xs ≡ take i xs ++ (b ∷ []) = take_more xs i b h ∙ ap (λ x. take i xs ++ (x ∷ [])) (sym was) in
     let after : take (i + 1) (set ys i a) ≡ take i ys ++ (a ∷ []) = take_more_set ys i a n in
-    let same : length (take i xs) ≡ length (take i ys) = length_taken i xs (omega arith) ∙ sym (length_taken i ys (omega arith)) in
+    let same : length (take i xs) ≡ length (take i ys) = length-take-le i xs (omega arith) ∙ sym (length-take-le i ys (omega arith)) in
     let events : history (take (i + 1) xs) (take (i + 1) (set ys i a)) ≡ history (take i xs) (take i ys) ++ (event_of b a ∷ []) =
     ap₂ history before after ∙ history_push (take i xs) (take i ys) b a same in
     record {
       long = length-set ys i a ∙ s.long;
-      rest = drop_past_set i ys a ∙ tail_of i ys xs b n h s.rest;
+      rest = drop-set-lt (i + 1) ys i a (omega arith) ∙ tail_of i ys xs b n h s.rest;
       come = subst (λ l. Come start l there) (sym events) (come_more start here there (history (take i xs) (take i ys)) (event_of b a) s.come t);
     }
   where
@@ -139,8 +133,5 @@ so_far_more start here there xs ys i b a h s e t =
         let q = drop_more xs i d h in
         cc
 
-    drop_past_set : (i : ℕ) (ys : List Turn) (a : Turn) → drop (i + 1) (set ys i a) ≡ drop (i + 1) ys
-    drop_past_set i ys a = drop-set-lt (i + 1) ys i a (omega arith)
-
-pub so_far_all : (start here : Standing) (xs ys : List Turn) (i : ℕ) → length xs ≤ i → SoFar start xs i ys here → Come start (history xs ys) here
-so_far_all start here xs ys i h s = subst (λ l. Come start l here) (ap₂ history (take_all i xs h) (take_all i ys (omega (arith, s.long)))) s.come
+pub so_far_all : {start here : Standing} {xs ys : List Turn} {i : ℕ} → length xs ≤ i → SoFar start xs i ys here → Come start (history xs ys) here
+so_far_all {start} {here} {xs} {ys} {i} h s = subst (λ l. Come start l here) (ap₂ history (take_all i xs h) (take_all i ys (omega (arith, s.long)))) s.come

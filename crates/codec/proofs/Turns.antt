@@ -1,40 +1,35 @@
--- One turn of the loops that check, write and hear a line. Assumes nothing.
-use Rattle.std.proofs.Common.{◌≡◌, ℕ, ◌+◌, ◌*◌, ◌<◌, ◌≤◌, Bool, true, false, List, [], ◌++◌, length, get_or, take, set, ℤ, pos, negsuc, sym, refl, ap, ◌∙◌, subst, add-zero, zero-add, arith, w8, SFits}
+-- One turn of the loops that write and read a line. Assumes nothing.
+use Rattle.std.proofs.Common.{◌≡◌, ℕ, zero, suc, ◌+◌, ◌*◌, ◌<◌, ◌≤◌, Bool, true, false, cond, not, ltb, List, [], ◌∷◌, ◌++◌, length, get_or, take, drop, set, Some, None, Option, ℤ, sym, refl, ap, ◌∙◌, ap₂, subst, add-zero, zero-add, mul-zero, arith, MatchOption}
 use native.Mathlib.Decide.{ℕ_discrete}
 use borrow.Rule.Slice.PartMut.{put_mid}
 use lib.Bits.{bit_xor}
-use lib.Signed.{lt_z}
-use Rattle.std.proofs.lemmas.List.{take_more, take_all, length-take-le, get_or-set_same, get_or-set_other}
+use Rattle.std.specs.List.{position, prefix_len}
+use Rattle.std.specs.Simd.{first_chunks}
+use Rattle.std.proofs.lemmas.List.{take_more, take_all, length-take-le, drop-drop, get_or-set_same, get_or-set_other}
 use Rattle.std.proofs.lemmas.Slice.{take-put_mid}
-use Rattle.std.proofs.lemmas.Int.{ints, to_z-of_z}
-use Rattle.lines.specs.LineCodes.{is_line_symbol}
+use Rattle.std.proofs.lemmas.List.Sums.{prefix_len-le-length}
 use Rattle.codec.specs.Lines.{line_group, line_from, group}
-use Rattle.codec.specs.Hearing.{HeardGroup}
-use Rattle.codec.proofs.Groups.{passed, length_group}
+use Rattle.codec.specs.Demapping.{Descrambled}
+use Rattle.codec.proofs.Groups.{length_group}
 use Rattle.codec.proofs.Apart.{from_push}
 
--- the test of a line symbol
+-- the first number that fails a test
 
-pub symbol_inside : (z : ℤ) → SFits w8 z → lt_z (passed z) (negsuc 0) ≡ false → lt_z (pos 1) (passed z) ≡ false → is_line_symbol z ≡ true
-symbol_inside z h low high =
-    let e : lt_z z (negsuc 0) ≡ false = ap (λ x. lt_z x (negsuc 0)) (sym (to_z-of_z w8 z h)) ∙ low in
-    let f : lt_z (pos 1) z ≡ false = ap (lt_z (pos 1)) (sym (to_z-of_z w8 z h)) ∙ high in
-    inside z e f
+twice_not : (p : ℤ → Bool) (xs : List ℤ) → prefix_len (λ x. not (not (p x))) xs ≡ prefix_len p xs
+twice_not p [] = refl
+twice_not p (x ∷ xs) = ap₂ (λ b n. cond b (1 + n) 0) (not_not (p x)) (twice_not p xs)
   where
-    inside : (x : ℤ) → lt_z x (negsuc 0) ≡ false → lt_z (pos 1) x ≡ false → is_line_symbol x ≡ true
-    inside x e f = grind (arith, ints)
+    not_not : (b : Bool) → not (not b) ≡ b
+    not_not true = refl
+    not_not false = refl
 
-pub symbol_below : (z : ℤ) → SFits w8 z → lt_z (passed z) (negsuc 0) ≡ true → is_line_symbol z ≡ false
-symbol_below z h low = outside z (ap (λ x. lt_z x (negsuc 0)) (sym (to_z-of_z w8 z h)) ∙ low)
-  where
-    outside : (x : ℤ) → lt_z x (negsuc 0) ≡ true → is_line_symbol x ≡ false
-    outside x e = grind (arith, ints)
+at_fault : (n m : ℕ) (r : Option ℕ) → r ≡ cond (ltb n m) (Some n) None → MatchOption r (m ≤ n) (λ place. (n < m) × (place ≡ n))
+at_fault n m None e = grind arith
+at_fault n m (Some place) e = grind arith
 
-pub symbol_above : (z : ℤ) → SFits w8 z → lt_z (pos 1) (passed z) ≡ true → is_line_symbol z ≡ false
-symbol_above z h high = outside z (ap (lt_z (pos 1)) (sym (to_z-of_z w8 z h)) ∙ high)
-  where
-    outside : (x : ℤ) → lt_z (pos 1) x ≡ true → is_line_symbol x ≡ false
-    outside x e = grind (arith, ints)
+pub first_fault : (p : ℤ → Bool) (xs : List ℤ) (r : Option ℕ) → r ≡ position (λ x. not (p x)) xs → MatchOption r (prefix_len p xs ≡ length xs) (λ place. (prefix_len p xs < length xs) × (place ≡ prefix_len p xs))
+first_fault p xs None e = omega (arith, prefix_len-le-length p xs, twice_not p xs, at_fault _ _ None e)
+first_fault p xs (Some place) e = let found = at_fault _ _ (Some place) e in (omega (arith, twice_not p xs, found.0), found.1 ∙ twice_not p xs)
 
 -- masks used up: after k turns mask i is mask k + i of the start
 abbrev pub Used : (ℕ → ℕ) → (ℕ → ℕ) → ℕ → Type 0
@@ -74,13 +69,21 @@ module _ (pair : ℕ → ℤ × ℤ) (mask : ℕ → ℕ) where
       → take (6 * k) line ≡ line_from pair mask 0 (take k word) → line ≡ line_from pair mask 0 word
   written_all k line word l h e = sym (take_all (6 * k) line l) ∙ e ∙ ap (line_from pair mask 0) (take_all k word h)
 
--- the groups heard
-pub heard_more : (pair : ℕ → ℤ × ℤ) (mask : ℕ → ℕ) (line : List ℤ) (symbols : List ℕ) (unread : List Bool) (k s : ℕ) (b : Bool) → k < length symbols → k < length unread
-    → ((i : ℕ) → i < k → HeardGroup pair (mask i) (group line i) (get_or symbols i 0) (get_or unread i false)) → HeardGroup pair (mask k) (group line k) s b
-    → (i : ℕ) → i < k + 1 → HeardGroup pair (mask i) (group line i) (get_or (set symbols k s) i 0) (get_or (set unread k b) i false)
-heard_more pair mask line symbols unread k s b hs hu before here i h =
-    let P : ℕ → Type 0 = λ n. HeardGroup pair (mask n) (group line n) (get_or (set symbols k s) n 0) (get_or (set unread k b) n false) in
+-- chunk k of the first n
+pub chunk_at : {X : Type 0} (size n : ℕ) (xs : List X) (k : ℕ) → k < n → get_or (first_chunks size n xs) k [] ≡ take size (drop (size * k) xs)
+chunk_at size zero xs k h = absurd (omega arith)
+chunk_at size (suc n) xs zero h = ap (λ m. take size (drop m xs)) (sym (mul-zero size))
+chunk_at size (suc n) xs (suc k) h =
+    let far : size + size * k ≡ size * suc k = omega arith in
+    chunk_at size n (drop size xs) k (omega arith) ∙ ap (take size) (drop-drop (size * k) size xs ∙ ap (λ m. drop m xs) far)
+
+-- the symbols read
+pub demapped_more : (pair : ℕ → ℤ × ℤ) (mask : ℕ → ℕ) (line : List ℤ) (symbols : List (Option ℕ)) (k : ℕ) (symbol : Option ℕ) → k < length symbols
+    → ((i : ℕ) → i < k → Descrambled pair (mask i) (group line i) (get_or symbols i None)) → Descrambled pair (mask k) (group line k) symbol
+    → (i : ℕ) → i < k + 1 → Descrambled pair (mask i) (group line i) (get_or (set symbols k symbol) i None)
+demapped_more pair mask line symbols k symbol h before here i l =
+    let P : ℕ → Type 0 = λ n. Descrambled pair (mask n) (group line n) (get_or (set symbols k symbol) n None) in
     elim (ℕ_discrete i k) [
-      | yes e ↦ subst P (sym e) (rw (get_or-set_same symbols k s 0 hs, get_or-set_same unread k b false hu) here)
-      | no e ↦ rw (get_or-set_other symbols k i s 0 e, get_or-set_other unread k i b false e) (before i (omega arith))
+      | yes e ↦ subst P (sym e) (rw (get_or-set_same symbols k symbol None h) here)
+      | no e ↦ rw (get_or-set_other symbols k i symbol None e) (before i (omega arith))
     ]

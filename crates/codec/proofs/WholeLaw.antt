@@ -1,8 +1,8 @@
 -- The whole law over a run. Assumes nothing.
-use Rattle.std.proofs.Common.{◌≡◌, ℕ, ◌<◌, List, ℤ, Option, ap, ◌∙◌}
-use Rattle.arithmetic.specs.Laws.{Lawful}
+use Rattle.std.proofs.Common.{◌≡◌, ℕ, List, ℤ, Option, ap, ◌∙◌}
 use Rattle.code.specs.Words.{Codeword}
-use Rattle.codec.specs.Ends.{End, Agree}
+use Rattle.code.proofs.Agreement.{codewords_agree}
+use Rattle.codec.specs.Ends.{End, LawfulEnd, Agree}
 use Rattle.codec.specs.Histories.{Event}
 use Rattle.codec.specs.Law.{SentComesBack, BeyondRepairExactlyWhenNoneNear, AcceptedIsNearExactlyOne, RefusedExactly}
 use Rattle.codec.specs.Lines.{Near, line_frame}
@@ -13,14 +13,8 @@ use Rattle.codec.proofs.SentComesBack.{CarriesBack, sent_comes_back}
 use Rattle.codec.specs.declared.report.Report.{Report}
 use Rattle.codec.specs.declared.faults.FrameFault.{FrameFault}
 use Rattle.codec.proofs.Carried.{carried, told_clean}
-use Rattle.codec.proofs.LineFrames.{near_unique, frames_agree, codewords_agree}
+use Rattle.codec.proofs.LineFrames.{near_unique, frames_agree}
 use Rattle.codec.proofs.Runs.{Come}
-
--- the parts of an end keep their laws
-pub record LawfulEnd (end : End) : Type 0 where
-  pub field : Lawful end.field
-  pub masks : (k : ℕ) → end.mask k < 512
-  pub pairs : (v w : ℕ) → v < 8 → w < 8 → end.pair v ≡ end.pair w → v ≡ w
 
 unique : (end : End) → LawfulEnd end → (period : ℕ) (line : List ℤ) (word other : List ℕ) → Near end period line word → Near end period line other → other ≡ word
 unique end l period line word other n m = near_unique end l.field l.pairs l.masks period line word other n m
@@ -43,7 +37,7 @@ frames : (a b : End) → Agree a b → (period : ℕ) (word : List ℕ) → line
 frames a b agree period word = frames_agree agree period word
 
 codes : (a b : End) → Agree a b → (word : List ℕ) → Codeword a.field word → Codeword b.field word
-codes a b agree word h = codewords_agree agree word h
+codes a b agree word h = codewords_agree a.field b.field agree.arithmetics word h
 
 pub record Whole (start : Standing) (events : List Event) : Type 0 where
   pub refused_exactly : RefusedExactly start.receiver start.lock events
@@ -51,8 +45,8 @@ pub record Whole (start : Standing) (events : List Event) : Type 0 where
   pub beyond_repair_exactly_when_none_near : BeyondRepairExactlyWhenNoneNear start.receiver events
   pub accepted_is_near_exactly_one : AcceptedIsNearExactlyOne start.receiver events
 
-pub whole : (start here : Standing) (events : List Event) → LawfulEnd start.receiver → Come start events here → Whole start events
-whole start here events l c =
+pub whole : {start here : Standing} {events : List Event} → LawfulEnd start.receiver → Come start events here → Whole start events
+whole {start} {here} {events} l c =
     let S = start.sender in
     let R = start.receiver in
     let lock = start.lock in

@@ -1,20 +1,10 @@
--- Faults of the layers below as an end's fault. Assumes nothing.
-use Rattle.std.specs.Prelude.{◌≡◌, ℕ, List}
-use Rattle.blocks.specs.Characters.{FirstNoCharacter}
-use Rattle.blocks.specs.declared.faults.BlockFault.{BlockFault}
-use Rattle.code.specs.declared.fault.CodeFault.{CodeFault}
-use Rattle.codec.specs.declared.faults.LineFault.{LineFault}
+-- What a call on an end is refused for. Assumes nothing.
+use Rattle.std.specs.Prelude.{◌≡◌, [], Some, Ok, Err, Result}
+use Rattle.codec.specs.Calls.{Call, faults, first_of}
 use Rattle.codec.specs.declared.faults.EndFault.{EndFault}
+use Rattle.codec.specs.declared.lock.Lock.{Lock}
 
-abbrev pub wrapped_block : BlockFault → EndFault
-wrapped_block fault = EndFault.Block fault
-
-abbrev pub wrapped_line : LineFault → EndFault
-wrapped_line fault = EndFault.Line fault
-
-abbrev pub wrapped_code : CodeFault → EndFault
-wrapped_code fault = EndFault.Code fault
-
--- the fault names the first number that is no character
-abbrev pub NamesNoCharacter : List ℕ → BlockFault → Type 0
-NamesNoCharacter cs fault = (place : ℕ) × FirstNoCharacter cs place × (fault ≡ BlockFault.NoCharacter place)
+-- a call has no fault, or this one first
+abbrev pub Checked : {X : Type 0} → Lock → Call → Result X EndFault → Type 0
+Checked lock asked (Ok x) = faults lock asked ≡ []
+Checked lock asked (Err fault) = first_of (faults lock asked) ≡ Some fault

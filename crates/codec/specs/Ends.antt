@@ -1,6 +1,6 @@
 -- What an end is made over. Assumes nothing.
-use Rattle.std.specs.Prelude.{◌≡◌, ℕ, ◌+◌, ◌*◌, ℤ}
-use Rattle.arithmetic.specs.Laws.{Operations}
+use Rattle.std.specs.Prelude.{◌≡◌, ℕ, ◌+◌, ◌*◌, ◌<◌, ℤ}
+use Rattle.arithmetic.specs.Laws.{Operations, Lawful}
 use Rattle.arithmetic.specs.Laws as laws
 use Rattle.lines.specs.Scramblers.{StreamsAgree}
 use Rattle.lines.specs.LineCodes.{LineCodesAgree}
@@ -25,3 +25,9 @@ pub record Later (periods : ℕ) (before after : End) : Type 0 where
   pub arithmetic : after.field ≡ before.field
   pub masks : (k : ℕ) → after.mask k ≡ before.mask (450 * periods + k)
   pub code : after.pair ≡ before.pair
+
+-- the parts of an end keep their laws
+pub record LawfulEnd (end : End) : Type 0 where
+  pub field : Lawful end.field
+  pub masks : (k : ℕ) → end.mask k < 512
+  pub pairs : (v w : ℕ) → v < 8 → w < 8 → end.pair v ≡ end.pair w → v ≡ w

@@ -1,7 +1,7 @@
 pub mod Frames
 pub mod Ends
 pub mod Lines
-pub mod Hearing
+pub mod Demapping
 pub mod Locks
 pub mod Refusals
 pub mod Reports
@@ -11,4 +11,5 @@ pub mod Checking
 pub mod Histories
 pub mod Turning
 pub mod Law
+pub mod Texts
 pub mod Worked

@@ -2,11 +2,7 @@
 use Rattle.std.specs.Prelude.{◌≡◌, ℕ, List, replicate, Ok, Err, Result}
 use Rattle.blocks.specs.Blocks.{EncodesNone, EncodesOnly, InvalidField}
 use Rattle.blocks.specs.Faults.{block_refusal}
-use Rattle.blocks.specs.declared.faults.BlockFault.{BlockFault}
 use Rattle.codec.specs.declared.faults.FrameFault.{FrameFault}
-
-abbrev pub numbered : ℕ × BlockFault → FrameFault
-numbered p = record { block = p.0; fault = p.1 }
 
 -- ten errors and the fault of an invalid block
 pub record TenErrors (k : ℕ) (block ten : List ℕ) (found : FrameFault) : Type 0 where

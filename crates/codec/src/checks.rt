@@ -1,58 +1,20 @@
 //! What a call on an end is refused for, before it is a period.
-ghost use Rattle.std.specs.Prelude.{◌≡◌, [], length, Some, MatchResult, ◌≢◌};
-ghost use Rattle.blocks.specs.Characters.{Characters, FirstNoCharacter};
-ghost use Rattle.codec.specs.Calls.{faults, first_of, send as sent, sender_rest, receive as received};
+ghost use Rattle.std.specs.Prelude.{◌≡◌, length, map, MatchResult, IfOk, ◌≢◌};
+ghost use Rattle.blocks.specs.Numbers.{number_of};
+ghost use Rattle.codec.specs.Calls.{send as sent, sender_rest, receive as received};
 ghost use Rattle.codec.specs.Locks.{new_lock};
-ghost use Rattle.codec.specs.Checking.{wrapped_block, wrapped_line, wrapped_code, NamesNoCharacter};
+ghost use Rattle.codec.specs.Checking.{Checked};
 
-use crate::faults::{EndFault, LineFault};
+use crate::faults::EndFault;
 use crate::line::check_line;
 use crate::lock::Lock;
-use blocks::{BlockFault, first_no_character};
-use code::CodeFault;
+use blocks::{Character, parse};
 
-impl From<BlockFault> for EndFault {
-    ghost from_gives = { λ x y. y ≡ wrapped_block x };
-
-    fn from(fault: BlockFault) -> EndFault {
-        EndFault::Block { fault }
-    }
-}
-
-impl From<LineFault> for EndFault {
-    ghost from_gives = { λ x y. y ≡ wrapped_line x };
-
-    fn from(fault: LineFault) -> EndFault {
-        EndFault::Line { fault }
-    }
-}
-
-impl From<CodeFault> for EndFault {
-    ghost from_gives = { λ x y. y ≡ wrapped_code x };
-
-    fn from(fault: CodeFault) -> EndFault {
-        EndFault::Code { fault }
-    }
-}
-
-/// Refuses a buffer of the wrong length.
-fn check_length(length: usize, right: usize, buffer: usize) -> Result<(), EndFault>
-    ensures { MatchResult result (λ _. length ≡ right) (λ e. (length ≢ right) × (e ≡ EndFault.Length buffer)) }
+/// A buffer as an array, where it has the array's length.
+fn array_of<T, const N: usize>(buffer: &[T], number: usize) -> Result<&[T; N], EndFault>
+    ensures { MatchResult result (λ a. (length buffer.now ≡ N) × (a.now ≡ buffer.now)) (λ e. (length buffer.now ≢ N) × (e ≡ EndFault.Length number)) }
 {
-    if length != right {
-        return Err(EndFault::Length { buffer });
-    }
-    Ok(())
-}
-
-/// Refuses the first number that is no character.
-fn check_characters(characters: &[u16]) -> Result<(), BlockFault>
-    ensures { MatchResult result (λ _. Characters characters.now) (λ e. NamesNoCharacter characters.now e) }
-{
-    match first_no_character(characters) {
-        Some(place) => Err(BlockFault::NoCharacter { place }),
-        None => Ok(()),
-    }
+    buffer.as_array().ok_or(EndFault::Length { buffer: number })
 }
 
 /// Refuses a receiver without lock.
@@ -65,45 +27,45 @@ pub(crate) fn check_lock(lock: Lock) -> Result<(), EndFault>
     }
 }
 
-/// What a send is refused for.
-pub(crate) fn check_send(characters: &[u16], symbol: u16, line: &[i8]) -> Result<(), EndFault>
-    ensures { MatchResult result
-        (λ _. faults new_lock (sent characters.now symbol line.now) ≡ [])
-        (λ e. first_of (faults new_lock (sent characters.now symbol line.now)) ≡ Some e) }
+/// The characters of a send, or what it is refused for.
+pub(crate) fn check_send(
+    characters: &[u16],
+    symbol: u16,
+    line: &[i8],
+) -> Result<[Character; 450], EndFault>
+    ensures checked { Checked new_lock (sent characters.now symbol line.now) result }
+    ensures parsed { IfOk result (λ cs. map number_of cs ≡ characters.now) }
 {
-    check_length(characters.len(), 450, 0)?;
-    check_length(line.len(), 2700, 1)?;
+    let numbers = array_of(characters, 0)?;
+    array_of::<i8, 2700>(line, 1)?;
     if symbol > 511 {
         return Err(EndFault::ManagementSymbol);
     }
-    check_characters(characters)?;
-    Ok(())
+    Ok(parse(numbers)?)
 }
 
 /// What a sender's rest is refused for.
 pub(crate) fn check_rest(line: &[i8]) -> Result<(), EndFault>
-    ensures { MatchResult result
-        (λ _. faults new_lock (sender_rest line.now) ≡ [])
-        (λ e. first_of (faults new_lock (sender_rest line.now)) ≡ Some e) }
+    ensures { Checked new_lock (sender_rest line.now) result }
 {
-    check_length(line.len(), 2700, 0)
+    array_of::<i8, 2700>(line, 0)?;
+    Ok(())
 }
 
-/// What a receive is refused for.
-pub(crate) fn check_receive(
+/// The line of a receive, or what it is refused for.
+pub(crate) fn check_receive<'a>(
     lock: Lock,
-    line: &[i8],
+    line: &'a [i8],
     characters: &[u16],
     places: &[u16],
-) -> Result<(), EndFault>
-    ensures { MatchResult result
-        (λ _. faults lock (received line.now characters.now places.now) ≡ [])
-        (λ e. first_of (faults lock (received line.now characters.now places.now)) ≡ Some e) }
+) -> Result<&'a [i8; 2700], EndFault>
+    ensures checked { Checked lock (received line.now characters.now places.now) result }
+    ensures same_frame { IfOk result (λ a. a.now ≡ line.now) }
 {
     check_lock(lock)?;
-    check_length(line.len(), 2700, 0)?;
-    check_length(characters.len(), 450, 1)?;
-    check_length(places.len(), 22, 2)?;
+    let frame = array_of(line, 0)?;
+    array_of::<u16, 450>(characters, 1)?;
+    array_of::<u16, 22>(places, 2)?;
     check_line(line)?;
-    Ok(())
+    Ok(frame)
 }

@@ -1,7 +1,7 @@
 //! Frames: 45 blocks and the management symbol as code symbols, and back.
-ghost use Rattle.std.specs.Prelude.{◌≡◌, ℕ, ◌+◌, ◌<◌, length, take, slice_index};
+ghost use Rattle.std.specs.Prelude.{◌≡◌, ℕ, ◌+◌, ◌<◌, length, map, take, slice_index};
 ghost use Rattle.blocks.specs.Bits.{packed, unpacked};
-ghost use Rattle.blocks.specs.Characters.{Characters};
+ghost use Rattle.blocks.specs.Numbers.{number_of};
 ghost use Rattle.code.specs.Words.{Word, Codeword};
 ghost use Rattle.codec.specs.Frames.{block_bits, block_from, message_of};
 ghost use Rattle.codec.specs.Reports.{FrameTold};
@@ -10,49 +10,46 @@ ghost use Rattle.codec.specs.Numbering.{TenTold};
 use crate::faults::FrameFault;
 use crate::report::BlockReport;
 use arithmetic::Arithmetic;
-use blocks::{read_block, write_block};
+use blocks::{Character, encode, read_block};
 use code::Code;
+use std::array;
+
+/// The number of the error character.
+pub(crate) const ERROR: u16 = 257;
 
 /// Symbol j of the nine that hold a block's 81 bits: the end of one octet and the start of the next.
-fn symbol_at(block: &[u8], j: usize) -> u16
-    requires eleven { length block.now ≡ 11 }
+fn symbol_at(block: &[u8; 11], j: usize) -> u16
     requires bit { slice_index block.now 0 < 2 }
     requires one_of_nine { j < 9 }
     ensures { result ≡ slice_index (packed 9 9 (block_bits block.now)) j }
 {
     if j == 0 {
-        return block[0] as u16 + 2 * block[1] as u16;
+        return u16::from(block[0]) + 2 * u16::from(block[1]);
     }
-    let low = (block[j + 1] >> (j - 1)) as u16;
-    let high = (block[j + 2] as u16 & ((1 << j) - 1)) << (9 - j);
+    let low = u16::from(block[j + 1] >> (j - 1));
+    let high = (u16::from(block[j + 2]) & ((1 << j) - 1)) << (9 - j);
     low + high
 }
 
-/// Writes the nine symbols of a block.
-fn write_symbols(block: &[u8], symbols: &mut [u16])
-    requires eleven { length block.now ≡ 11 }
+/// The nine symbols of a block.
+fn symbols_of(block: &[u8; 11]) -> [u16; 9]
     requires bit { slice_index block.now 0 < 2 }
-    requires nine { length symbols.old ≡ 9 }
-    ensures { symbols.new ≡ packed 9 9 (block_bits block.now) }
+    ensures { result ≡ packed 9 9 (block_bits block.now) }
 {
-    for j in 0..9usize {
-        symbols[j] = symbol_at(block, j);
-    }
+    array::from_fn(|j| symbol_at(block, j))
 }
 
 /// The 406 symbols of a frame, with zeros for the parity.
-pub(crate) fn frame_symbols(characters: &[u16], symbol: u16) -> [u16; 450]
-    requires full { length characters.now ≡ 450 }
-    requires valid { Characters characters.now }
+pub(crate) fn frame_symbols(characters: &[Character; 450], symbol: u16) -> [u16; 450]
     requires nine_bits { symbol < 512 }
-    ensures message { take 406 result ≡ message_of characters.now symbol }
+    ensures message { take 406 result ≡ message_of (map number_of characters.now) symbol }
     ensures word { Word result }
 {
     let mut word = [0u16; 450];
-    for k in 0..45usize {
-        let mut block = [0u8; 11];
-        let _ = write_block(&characters[10 * k..10 * k + 10], &mut block);
-        write_symbols(&block, &mut word[9 * k..9 * k + 9]);
+    let (tens, _) = characters.as_chunks::<10>();
+    // By index: `as_chunks_mut` says nothing of what the slice ends as.
+    for (k, ten) in tens.iter().enumerate() {
+        word[9 * k..9 * k + 9].copy_from_slice(&symbols_of(&encode(ten)));
     }
     word[405] = symbol;
     word
@@ -61,85 +58,98 @@ pub(crate) fn frame_symbols(characters: &[u16], symbol: u16) -> [u16; 450]
 /// The codeword that carries characters and a management symbol.
 pub(crate) fn codeword_of<A: Arithmetic>(
     code: &Code<A>,
-    characters: &[u16],
+    characters: &[Character; 450],
     symbol: u16,
 ) -> [u16; 450]
-    requires full { length characters.now ≡ 450 }
-    requires valid { Characters characters.now }
     requires nine_bits { symbol < 512 }
-    ensures carries { take 406 result ≡ message_of characters.now symbol }
-    ensures codeword { Codeword (A.Arithmetic.field code.now.arithmetic) result }
+    ensures carries { take 406 result ≡ message_of (map number_of characters.now) symbol }
+    ensures codeword { Codeword (A.field code.now.arithmetic) result }
 {
     let mut word = frame_symbols(characters, symbol);
+    // A word of elements is never refused: `?` would hand on a fault that cannot occur.
     let _ = code.complete(&mut word);
     word
 }
 
-/// Octet i of the payload in nine symbols: the end of one symbol and the start of the next.
-fn octet_at(symbols: &[u16], i: usize) -> u8
-    requires nine { length symbols.now ≡ 9 }
-    requires small { (k : ℕ) → slice_index symbols.now k < 512 }
-    requires one_of_ten { i < 10 }
-    ensures { result ≡ slice_index (block_from (unpacked 9 symbols.now)) (1 + i) }
-{
-    if i == 0 {
-        return (symbols[0] >> 1) as u8;
-    }
-    let low = symbols[i - 1] >> (10 - i);
-    let high = if i < 9 {
-        (symbols[i] & ((1 << (9 - i)) - 1)) << (i - 1)
-    } else {
-        0
-    };
-    (low + high) as u8
+/// A block's 81 bits as nine symbols.
+#[derive(Clone, Copy)]
+struct PackedBlock<'a> {
+    symbols: &'a [u16; 9],
+    ghost nine: { length symbols.now ≡ 9 },
+    ghost small: { (k : ℕ) → slice_index symbols.now k < 512 },
 }
 
-/// The block whose 81 bits stand in nine symbols.
-fn block_of_symbols(symbols: &[u16]) -> [u8; 11]
-    requires nine { length symbols.now ≡ 9 }
-    requires small { (k : ℕ) → slice_index symbols.now k < 512 }
-    ensures { result ≡ block_from (unpacked 9 symbols.now) }
-{
-    let mut block = [0u8; 11];
-    block[0] = (symbols[0] % 2) as u8;
-    for i in 0..10usize {
-        block[i + 1] = octet_at(symbols, i);
+impl PackedBlock<'_> {
+    /// Octet i of the payload: the end of one symbol and the start of the next.
+    fn payload_octet(&self, i: usize) -> u8
+        requires one_of_ten { i < 10 }
+        ensures { result ≡ slice_index (block_from (unpacked 9 self.now.symbols.now)) (1 + i) }
+    {
+        let symbols = self.symbols;
+        if i == 0 {
+            return (symbols[0] >> 1) as u8;
+        }
+        let low = symbols[i - 1] >> (10 - i);
+        let high = if i < 9 {
+            (symbols[i] & ((1 << (9 - i)) - 1)) << (i - 1)
+        } else {
+            0
+        };
+        (low + high) as u8
     }
-    block
+
+    /// Octet i of the block: the header bit, then the payload.
+    fn octet(&self, i: usize) -> u8
+        requires one_of_eleven { i < 11 }
+        ensures { result ≡ slice_index (block_from (unpacked 9 self.now.symbols.now)) i }
+    {
+        if i == 0 {
+            (self.symbols[0] % 2) as u8
+        } else {
+            self.payload_octet(i - 1)
+        }
+    }
+
+    /// The block.
+    fn block(&self) -> [u8; 11]
+        ensures { result ≡ block_from (unpacked 9 self.now.symbols.now) }
+    {
+        array::from_fn(|i| self.octet(i))
+    }
 }
 
 /// Reads block k, given as nine symbols, into its ten characters; ten errors for an invalid block.
-fn read_ten(k: usize, symbols: &[u16], ten: &mut [u16]) -> Result<(), FrameFault>
-    requires nine { length symbols.now ≡ 9 }
-    requires small { (i : ℕ) → slice_index symbols.now i < 512 }
+fn read_ten(k: usize, packed: PackedBlock, ten: &mut [u16]) -> Result<(), FrameFault>
+    // A length, and no `&mut [u16; 10]`: `as_chunks_mut` says nothing of what the slice ends as.
     requires part_of_ten { length ten.old ≡ 10 }
-    ensures { TenTold k (block_from (unpacked 9 symbols.now)) ten.new result }
+    ensures { TenTold k (block_from (unpacked 9 packed.entry.symbols.now)) ten.new result }
 {
-    let block = block_of_symbols(symbols);
-    match read_block(&block, ten) {
+    match read_block(&packed.block(), ten) {
         Ok(()) => Ok(()),
         Err(fault) => {
-            ten.fill(257);
+            ten.fill(ERROR);
             Err(FrameFault::from((k, fault)))
         }
     }
 }
 
 /// Reads the blocks of a word one after another, each into its own ten characters.
-pub(crate) fn read_frame(word: &[u16], characters: &mut [u16]) -> BlockReport
+pub(crate) fn read_frame(word: &[u16; 450], characters: &mut [u16]) -> BlockReport
+    // No type for words, as in `write_line`.
     requires word { Word word.now }
+    // A length: `check_receive` has found it, and `as_mut_array` after that would need an arm that cannot occur.
     requires full { length characters.old ≡ 450 }
     ensures { FrameTold word.now characters.new result.invalid result.fault }
 {
     let mut invalid = 0u64;
     let mut fault = None;
-    for k in 0..45usize {
-        let symbols = &word[9 * k..9 * k + 9];
-        if let Err(found) = read_ten(k, symbols, &mut characters[10 * k..10 * k + 10]) {
+    let (nines, _) = word[..405].as_chunks::<9>();
+    // The characters by index: `as_chunks_mut` says nothing of what the slice ends as.
+    for (k, symbols) in nines.iter().enumerate() {
+        let packed = PackedBlock { symbols };
+        if let Err(found) = read_ten(k, packed, &mut characters[10 * k..10 * k + 10]) {
             invalid += 1 << k;
-            if fault.is_none() {
-                fault = Some(found);
-            }
+            fault = fault.or(Some(found));
         }
     }
     BlockReport { invalid, fault }

@@ -3,19 +3,19 @@ ghost use Rattle.std.specs.Prelude.{IfOk};
 ghost use Rattle.code.specs.Words.{Word};
 
 use crate::frame::{frame_symbols, read_frame};
-use blocks::{BlockFault, first_no_character};
+use blocks::{BlockFault, parse};
 use std::test::Fail;
 
 /// The symbols of 450 characters and a management symbol.
-fn symbols(characters: &[u16], symbol: u16) -> Result<[u16; 450], Fail>
+fn symbols(characters: &[u16; 450], symbol: u16) -> Result<[u16; 450], Fail>
     ensures { IfOk result (λ word. Word word) }
 {
-    if characters.len() != 450 || symbol >= 512 {
+    if symbol >= 512 {
         return Err(Fail::new("no frame"));
     }
-    match first_no_character(characters) {
-        None => Ok(frame_symbols(characters, symbol)),
-        Some(_) => Err(Fail::new("no character")),
+    match parse(characters) {
+        Ok(characters) => Ok(frame_symbols(&characters, symbol)),
+        Err(_) => Err(Fail::new("no character")),
     }
 }
 

@@ -1,39 +1,40 @@
 //! The line codec: frames, ends and exchanges, with the calls of the layers below.
+//! Calls on ends and blocks take numbers and hand them out, since callers have such and the refusals speak of them.
 #![tactic(auto)]
 
 mod checks;
-mod end_refusals;
 mod ends;
 mod exchanges;
 mod faults;
 mod frame;
 #[cfg(test)]
 mod frame_tests;
-mod hear;
-mod hearing;
 mod line;
 #[cfg(test)]
 mod line_tests;
 mod lock;
-mod locking;
-mod mend;
-mod numbering;
 mod receiver;
+mod repair;
 mod report;
 mod request;
 mod sender;
 mod worked;
 
 pub use blocks::{
-    BlockFault, Cycle, CycleFault, block_laws, read_block, read_cycle, read_cycles, write_block,
+    BlockFault, Character, Control, Cycle, CycleFault, NoCharacter, NoControl, block_laws, decode,
+    encode, parse, read_block, read_cycle, read_cycles, write_block,
 };
 pub use ends::{Receiver, Sender};
 pub use exchanges::exchange;
 pub use faults::{EndFault, FrameFault, LineFault};
 pub use lines::{
-    Exchanged, LineCode, MakingFault, Ordered, Ring, Role, Scrambler, Silent, Stream, Turned,
+    Exchanged, LineCode, MakingFault, NoSymbol, Ordered, Ring, Role, Scrambler, Seed, Silent,
+    Stream, Symbol, Turned,
 };
 pub use lock::Lock;
+pub use receiver::Receiving;
+pub use refusal::Fault;
 pub use report::Report;
 pub use request::{Outcome, Request, Turn};
+pub use sender::Sending;
 pub use worked::worked_values;

@@ -1,58 +1,102 @@
-//! Lines: line symbols checked, and codewords written as 2,700 line symbols.
-ghost use Rattle.std.specs.Prelude.{◌≡◌, ℕ, ◌+◌, ◌<◌, length, MatchResult};
+//! Lines: codewords written as 2,700 line symbols, and line symbols read as code symbols.
+ghost use Rattle.std.specs.Prelude.{◌≡◌, ◌<◌, length, MatchResult, not, position};
 ghost use Rattle.std.specs.List.{prefix_len};
 ghost use Rattle.code.specs.Words.{Word};
 ghost use Rattle.lines.specs.LineCodes.{is_line_symbol};
-ghost use Rattle.codec.specs.Lines.{line_group, line_from};
+ghost use Rattle.codec.specs.Lines.{line_group, line_from, PeriodUsed};
+ghost use Rattle.codec.specs.Demapping.{GroupRead, Descrambled, Demapped};
 
 use crate::faults::LineFault;
-use lines::{LineCode, Stream};
+use lines::{LineCode, Stream, Symbol};
+
+/// The place of the first number that is no line symbol.
+fn first_no_symbol(line: &[i8]) -> Option<usize>
+    ensures { result ≡ position (λ s. not (is_line_symbol s)) line.now }
+{
+    line.iter().position(|s| Symbol::try_from(*s).is_err())
+}
 
 /// Refuses the first number that is no line symbol.
 pub(crate) fn check_line(line: &[i8]) -> Result<(), LineFault>
     ensures { MatchResult result (λ _. prefix_len is_line_symbol line.now ≡ length line.now) (λ e. (prefix_len is_line_symbol line.now < length line.now) × (e ≡ LineFault.NoLineSymbol (prefix_len is_line_symbol line.now))) }
 {
-    for (place, s) in line.iter().enumerate() {
-        if *s < -1 || *s > 1 {
-            return Err(LineFault::NoLineSymbol { place });
-        }
+    match first_no_symbol(line) {
+        Some(place) => Err(LineFault::NoLineSymbol { place }),
+        None => Ok(()),
     }
-    Ok(())
 }
 
-/// Writes the group of a scrambled symbol.
-fn write_group<L: LineCode>(line_code: &L, scrambled: u16, six: &mut [i8])
+/// Writes the group of a scrambled symbol. A copy of all six symbols at once would wait for the pairs to be stored.
+fn write_group<L: LineCode>(line_code: &L, scrambled: u16, group: &mut [i8])
     requires nine_bits { scrambled < 512 }
-    requires six { length six.old ≡ 6 }
-    ensures { six.new ≡ line_group (L.LineCode.pair line_code.now) scrambled }
+    // A length, and no `&mut [i8; 6]`: `as_chunks_mut` says nothing of what the slice ends as.
+    requires six { length group.old ≡ 6 }
+    ensures { group.new ≡ line_group (L.pair line_code.now) scrambled }
 {
-    let (a, b) = line_code.write((scrambled % 8) as u8);
-    let (c, d) = line_code.write((scrambled / 8 % 8) as u8);
-    let (e, f) = line_code.write((scrambled / 64) as u8);
-    six.copy_from_slice(&[a, b, c, d, e, f]);
+    (group[0], group[1]) = line_code.write((scrambled % 8) as u8);
+    (group[2], group[3]) = line_code.write((scrambled / 8 % 8) as u8);
+    (group[4], group[5]) = line_code.write((scrambled / 64) as u8);
+}
+
+/// The scrambled symbol of a group, and none where no word writes one of its pairs.
+fn read_group<L: LineCode>(line_code: &L, group: &[i8; 6]) -> Option<u16>
+    ensures { GroupRead (L.pair line_code.now) group.now result }
+{
+    let low = line_code.read(group[0], group[1])?;
+    let middle = line_code.read(group[2], group[3])?;
+    let high = line_code.read(group[4], group[5])?;
+    Some(u16::from(low) + 8 * u16::from(middle) + 64 * u16::from(high))
+}
+
+/// The symbol of a group, and none where no word writes one of its pairs.
+fn descramble<L: LineCode>(line_code: &L, mask: u16, group: &[i8; 6]) -> Option<u16>
+    requires mask { mask < 512 }
+    ensures { Descrambled (L.pair line_code.now) mask group.now result }
+{
+    Some(read_group(line_code, group)? ^ mask)
 }
 
 /// Writes the line frame of a word, and uses up a period's masks.
 pub(crate) fn write_line<S: Stream, L: LineCode>(
     stream: &mut S,
     line_code: &L,
-    word: &[u16],
+    word: &[u16; 450],
     line: &mut [i8],
 )
+    // No type for words: it would be made anew after each call of the code, which works on slices.
     requires word { Word word.now }
+    // A length: `check_send` has found it, and `as_mut_array` after that would need an arm that cannot occur.
     requires full { length line.old ≡ 2700 }
-    ensures written { line.new ≡ line_from (L.LineCode.pair line_code.now) (S.Stream.mask stream.old) 0 word.now }
-    ensures masks_used { (k : ℕ) → S.Stream.mask stream.new k ≡ S.Stream.mask stream.old (450 + k) }
+    ensures written { line.new ≡ line_from (L.pair line_code.now) (S.mask stream.old) 0 word.now }
+    ensures masks_used { PeriodUsed (S.mask stream.old) (S.mask stream.new) }
 {
-    for k in 0..450usize {
+    for (k, symbol) in word.iter().enumerate() {
         let mask = stream.next();
-        write_group(line_code, word[k] ^ mask, &mut line[6 * k..6 * k + 6]);
+        write_group(line_code, *symbol ^ mask, &mut line[6 * k..6 * k + 6]);
     }
+}
+
+/// Reads a line group by group, and uses up a period's masks.
+pub(crate) fn read_line<S: Stream, L: LineCode>(
+    stream: &mut S,
+    line_code: &L,
+    line: &[i8; 2700],
+) -> [Option<u16>; 450]
+    ensures demapped { Demapped (L.pair line_code.now) (S.mask stream.old) line.now result }
+    ensures masks_used { PeriodUsed (S.mask stream.old) (S.mask stream.new) }
+{
+    let (groups, _) = line.as_chunks::<6>();
+    let mut symbols = [None; 450];
+    for (k, group) in groups.iter().enumerate() {
+        let mask = stream.next();
+        symbols[k] = descramble(line_code, mask, group);
+    }
+    symbols
 }
 
 /// Uses up a period's masks.
 pub(crate) fn pass_masks<S: Stream>(stream: &mut S)
-    ensures masks_used { (k : ℕ) → S.Stream.mask stream.new k ≡ S.Stream.mask stream.old (450 + k) }
+    ensures masks_used { PeriodUsed (S.mask stream.old) (S.mask stream.new) }
 {
     for _k in 0..450usize {
         let _ = stream.next();

@@ -1,13 +1,13 @@
-//! Lines written, heard and mended.
+//! Lines written, read and repaired.
 ghost use Rattle.std.specs.Prelude.{◌≡◌, ◌+◌, [], ◌∷◌, length, slice_index};
 ghost use Rattle.std.proofs.Common.{rules};
 
-use crate::hear::read_line;
-use crate::line::write_line;
-use crate::mend::mend_line;
+use crate::line::{read_line, write_line};
+use crate::repair::{fill_erasures, repair_line};
 use arithmetic::Tabled;
 use code::{Code, CodeFault};
 use lines::{Ring, Stream};
+use std::array;
 use std::test::Fail;
 
 /// The first two masks of a master at state 1, then zeros.
@@ -49,8 +49,8 @@ fn written(code: &Code<Tabled>, word: &mut [u16; 450], line: &mut [i8; 2700]) ->
 fn damage(line: &mut [i8])
     requires { length line.old ≡ 2700 }
 {
-    for k in 0..22usize {
-        line[120 * k] = if line[120 * k] == 0 { 1 } else { 0 };
+    for twenty in line.chunks_exact_mut(120).take(22) {
+        twenty[0] = if twenty[0] == 0 { 1 } else { 0 };
     }
     line[0] = 0;
     line[1] = 0;
@@ -60,9 +60,9 @@ fn damage(line: &mut [i8])
 fn silence(line: &mut [i8])
     requires { length line.old ≡ 2700 }
 {
-    for k in 0..23usize {
-        line[12 * k] = 0;
-        line[12 * k + 1] = 0;
+    for two in line.chunks_exact_mut(12).take(23) {
+        two[0] = 0;
+        two[1] = 0;
     }
 }
 
@@ -81,28 +81,26 @@ fn zeros_are_written_as_masks(rt: HostRuntime) -> Result<(), Fail> {
 
 #[test]
 fn silence_is_unread(rt: HostRuntime) {
-    let heard = read_line(&mut Started { given: 0 }, &Ring, &[0i8; 2700]);
-    assert_eq!(rt; heard.unread, [true; 450]);
+    let symbols = read_line(&mut Started { given: 0 }, &Ring, &[0i8; 2700]);
+    assert_eq!(rt; symbols, [None; 450]);
 }
 
 #[test]
 fn damaged_groups_are_mended(rt: HostRuntime) -> Result<(), Fail> {
     let code = Code::new(Tabled);
     let mut word = [0u16; 450];
-    for k in 0..406usize {
-        word[k] = (k * 7 % 512) as u16;
+    for (k, symbol) in word[..406].iter_mut().enumerate() {
+        *symbol = (k * 7 % 512) as u16;
     }
     let mut line = [0i8; 2700];
     written(&code, &mut word, &mut line)?;
     damage(&mut line);
-    let Ok(mended) = mend_line(&code, &mut Started { given: 0 }, &Ring, &line) else {
-        return Err(Fail::new("not mended"));
+    let Ok(repaired) = repair_line(&code, &mut Started { given: 0 }, &Ring, &line) else {
+        return Err(Fail::new("not repaired"));
     };
-    assert_eq!(rt; mended.word, word);
-    assert_eq!(rt; mended.count, 22);
-    for k in 0..22usize {
-        assert_eq!(rt; mended.places[k], (20 * k) as u16);
-    }
+    assert_eq!(rt; repaired.word, word);
+    let places: [u16; 22] = array::from_fn(|k| (20 * k) as u16);
+    assert_eq!(rt; repaired.places.as_slice(), places.as_slice());
     Ok(())
 }
 
@@ -113,10 +111,10 @@ fn unread_groups_count(rt: HostRuntime) -> Result<(), Fail> {
     let mut line = [0i8; 2700];
     written(&code, &mut word, &mut line)?;
     silence(&mut line);
-    let heard = read_line(&mut Started { given: 0 }, &Ring, &line);
-    assert_eq!(rt; heard.symbols, word);
-    match mend_line(&code, &mut Started { given: 0 }, &Ring, &line) {
+    let symbols = read_line(&mut Started { given: 0 }, &Ring, &line);
+    assert_eq!(rt; fill_erasures(&symbols), word);
+    match repair_line(&code, &mut Started { given: 0 }, &Ring, &line) {
         Err(CodeFault::BeyondRepair) => Ok(()),
-        _ => Err(Fail::new("mended")),
+        _ => Err(Fail::new("repaired")),
     }
 }

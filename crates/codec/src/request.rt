@@ -1,4 +1,7 @@
 //! What is asked of an end, and what it answers.
+ghost use Rattle.std.specs.Prelude.{◌≡◌};
+ghost use Rattle.codec.specs.Calls.{done, accepted};
+
 use crate::faults::EndFault;
 use crate::report::Report;
 
@@ -21,13 +24,37 @@ pub enum Request {
     ReceiverRest,
 }
 
-/// How a call came out.
-#[derive(Clone, Copy)]
+/// How a call came out. Option<Result<Option<Report>, EndFault>> would be no plainer: two of its cases would have no name.
+#[derive(Clone, Copy, PartialEq, Eq, Debug)]
 pub enum Outcome {
     Unanswered,
     Done,
     Accepted { report: Report },
     Refused { fault: EndFault },
+}
+
+/// The outcome of a send or a rest.
+impl From<Result<(), EndFault>> for Outcome {
+    ghost from_gives = { λ x y. y ≡ done x };
+
+    fn from(answer: Result<(), EndFault>) -> Outcome {
+        match answer {
+            Ok(()) => Outcome::Done,
+            Err(fault) => Outcome::Refused { fault },
+        }
+    }
+}
+
+/// The outcome of a receive.
+impl From<Result<Report, EndFault>> for Outcome {
+    ghost from_gives = { λ x y. y ≡ accepted x };
+
+    fn from(answer: Result<Report, EndFault>) -> Outcome {
+        match answer {
+            Ok(report) => Outcome::Accepted { report },
+            Err(fault) => Outcome::Refused { fault },
+        }
+    }
 }
 
 /// A call, and its outcome once its turn has come.

@@ -1,7 +1,7 @@
 //! Sending: frames and rests.
 ghost use Rattle.std.specs.Prelude.{◌≡◌};
 ghost use Rattle.codec.specs.Calls.{Answers, send as sent, sender_rest, done, periods_of, sender_end};
-ghost use Rattle.codec.specs.Ends.{made_over, Later};
+ghost use Rattle.codec.specs.Ends.{End, made_over, Later};
 ghost use Rattle.codec.specs.Locks.{new_lock};
 
 use crate::checks::{check_rest, check_send};
@@ -13,10 +13,26 @@ use arithmetic::Arithmetic;
 use code::Code;
 use lines::{LineCode, Stream};
 
+/// An end that sends.
+pub trait Sending {
+    // What the end is made over, as it stands now: its masks are those still to come.
+    ghost end: { Self → End };
+
+    /// Writes the line frame of 450 characters and a management symbol.
+    fn send(&mut self, characters: &[u16], symbol: u16, line: &mut [i8]) -> Result<(), EndFault>
+        ensures answers_by_its_rule { Answers (end self.old) 0 new_lock (sent characters.now symbol line.old) (sent characters.now symbol line.new) (done result) }
+        ensures stands_later { Later (periods_of (done result)) (end self.old) (end self.new) };
+
+    /// Writes zeros, and uses up a period's masks.
+    fn rest(&mut self, line: &mut [i8]) -> Result<(), EndFault>
+        ensures answers_by_its_rule { Answers (end self.old) 0 new_lock (sender_rest line.old) (sender_rest line.new) (done result) }
+        ensures stands_later { Later (periods_of (done result)) (end self.old) (end self.new) };
+}
+
 impl<A: Arithmetic, S: Stream, L: LineCode> Sender<A, S, L> {
     /// A new sender over an arithmetic, a stream and a line code.
     pub fn new(arithmetic: A, stream: S, line_code: L) -> Sender<A, S, L>
-        ensures stands_new { sender_end A.Arithmetic.field S.Stream.mask L.LineCode.pair result ≡ made_over (A.Arithmetic.field arithmetic) (S.Stream.mask stream) (L.LineCode.pair line_code) }
+        ensures stands_new { sender_end A.field S.mask L.pair result ≡ made_over (A.field arithmetic) (S.mask stream) (L.pair line_code) }
     {
         Sender {
             code: Code::new(arithmetic),
@@ -24,23 +40,19 @@ impl<A: Arithmetic, S: Stream, L: LineCode> Sender<A, S, L> {
             line_code,
         }
     }
+}
 
-    /// Writes the line frame of 450 characters and a management symbol.
-    pub fn send(&mut self, characters: &[u16], symbol: u16, line: &mut [i8]) -> Result<(), EndFault>
-        ensures answers_by_its_rule { Answers (sender_end A.Arithmetic.field S.Stream.mask L.LineCode.pair self.old) 0 new_lock (sent characters.now symbol line.old) (sent characters.now symbol line.new) (done result) }
-        ensures stands_later { Later (periods_of (done result)) (sender_end A.Arithmetic.field S.Stream.mask L.LineCode.pair self.old) (sender_end A.Arithmetic.field S.Stream.mask L.LineCode.pair self.new) }
-    {
-        check_send(characters, symbol, line)?;
-        let word = codeword_of(&self.code, characters, symbol);
+impl<A: Arithmetic, S: Stream, L: LineCode> Sending for Sender<A, S, L> {
+    ghost end = { sender_end A.field S.mask L.pair };
+
+    fn send(&mut self, characters: &[u16], symbol: u16, line: &mut [i8]) -> Result<(), EndFault> {
+        let characters = check_send(characters, symbol, line)?;
+        let word = codeword_of(&self.code, &characters, symbol);
         write_line(&mut self.stream, &self.line_code, &word, line);
         Ok(())
     }
 
-    /// Writes zeros, and uses up a period's masks.
-    pub fn rest(&mut self, line: &mut [i8]) -> Result<(), EndFault>
-        ensures answers_by_its_rule { Answers (sender_end A.Arithmetic.field S.Stream.mask L.LineCode.pair self.old) 0 new_lock (sender_rest line.old) (sender_rest line.new) (done result) }
-        ensures stands_later { Later (periods_of (done result)) (sender_end A.Arithmetic.field S.Stream.mask L.LineCode.pair self.old) (sender_end A.Arithmetic.field S.Stream.mask L.LineCode.pair self.new) }
-    {
+    fn rest(&mut self, line: &mut [i8]) -> Result<(), EndFault> {
         check_rest(line)?;
         line.fill(0);
         pass_masks(&mut self.stream);

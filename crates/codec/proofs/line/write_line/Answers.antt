@@ -12,17 +12,17 @@ pub loop-k-preserved : goal.loop-k-preserved
 loop-k-preserved g c =
     let start = g.S.Stream.mask c.args.stream.now in
     let before = g.S.Stream.mask c.loop-k.stream in
-    let within : c.loop-k.k < length c.args.word.now = omega (arith, c.requires.word.full) in (
-      written_more (g.L.LineCode.pair c.args.line_code.now) start c.loop-k.k _ c.next-mask.result c.loop-k.line c.write_group.new.six c.args.word.now within (omega (arith, c.requires.full))
+    let within : c.loop-k.k < length c.args.word.now = omega (arith, c.told-word, c.loop-k-test.true) in (
+      written_more (g.L.LineCode.pair c.args.line_code.now) start c.loop-k.k _ c.next-mask.result c.loop-k.line c.write_group.new.group c.args.word.now within (omega (arith, c.requires.full, c.told-word))
           (mask_now start before c.loop-k.k _ c.loop-k.invariant.1 c.next-mask.ensures.first_mask) c.loop-k.invariant.0 c.write_group.ensures,
       used_more start before _ c.loop-k.k c.loop-k.invariant.1 c.next-mask.ensures.others_follow,
     )
 
 pub returns : goal.returns
 returns g c =
-    let done : c.loop-k.k ≡ 450 = omega arith in
+    let done : c.loop-k.k ≡ 450 = omega (arith, c.told-word) in
     record {
-      written = written_all (g.L.LineCode.pair c.args.line_code.now) (g.S.Stream.mask c.args.stream.now) c.loop-k.k c.loop-k.line c.args.word.now (omega (arith, c.requires.full)) (omega (arith, c.requires.word.full)) c.loop-k.invariant.0;
+      written = written_all (g.L.LineCode.pair c.args.line_code.now) (g.S.Stream.mask c.args.stream.now) c.loop-k.k c.loop-k.line c.args.word.now (omega (arith, c.requires.full, c.told-word)) (omega (arith, c.told-word)) c.loop-k.invariant.0;
       masks_used = used_all (g.S.Stream.mask c.args.stream.now) (g.S.Stream.mask c.loop-k.stream) c.loop-k.k done c.loop-k.invariant.1;
     }
 
