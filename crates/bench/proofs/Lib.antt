@@ -1,4 +1,3 @@
-pub mod Payloads
 pub mod Standing
 pub mod Resting
 pub mod Refusing

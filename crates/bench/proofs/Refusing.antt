@@ -1,5 +1,5 @@
 -- A refused record leaves the bench where it stood. Assumes nothing.
-use Rattle.std.proofs.Common.{◌≡◌, ℕ, false, cond, List, [], ◌∷◌, refl, ap, ◌∙◌, subst, ⊎_elim, arith}
+use Rattle.std.proofs.Common.{◌≡◌, ℕ, false, cond, List, [], ◌∷◌, Err, refl, ap, ◌∙◌, subst, ⊎_elim, arith}
 use Rattle.refusal.specs.declared.kinds.Refusal.{Refusal}
 use Rattle.blocks.specs.declared.faults.BlockFault.TheVariants.{InputLength, OutputLength, NoCharacter, InvalidPointer, ReservedCode}
 use Rattle.code.specs.declared.fault.CodeFault.{CodeFault}
@@ -12,9 +12,9 @@ use Rattle.codec.specs.declared.faults.EndFault.{EndFault}
 use Rattle.codec.specs.declared.faults.LineFault.TheVariants.{NoLineSymbol}
 use Rattle.codec.specs.declared.lock.FrameOutcome.{FrameOutcome}
 use Rattle.codec.specs.declared.request.Outcome.{Outcome}
-use Rattle.bench.specs.Benches.{Standing, Unchanged, Tells, Sends, Hits, in_range, out_of_range, Receives, Rests, both, neither, Carries, bad_head, sends, hits, receives, rests, NoPeriod, RefusedChangesNothing}
-use Rattle.bench.specs.declared.kinds.Head.{Head}
-use Rattle.bench.specs.declared.printed.Answer.{Answer}
+use Rattle.bench.specs.Benches.{Standing, Unchanged, Tells, Sends, in_range, out_of_range, Receives, both, neither, Carries, bad_head, sends, hits, receives, rests, NoPeriod, RefusedChangesNothing}
+use Rattle.bench.specs.declared.head.Head.{Head}
+use Rattle.bench.specs.Printing.{Answer}
 
 -- the faults of an end that are refused with 1 to 6 are no period
 no_period : (fault : EndFault) → NoPeriod (end_refusal fault) → is_period (Outcome.Refused fault) ≡ false
@@ -32,13 +32,13 @@ no_period (EndFault.Code (SymbolTooLarge place)) h = refl
 no_period (EndFault.Code BeyondRepair) h = absurd (⊎_elim (λ x. omega arith) (λ x. omega arith) h)
 
 -- a call that is told as refused was refused, with the fault that is told
-told_fault : (outcome : Outcome) (refusal : Refusal) → Tells outcome (Answer.Refused refusal) → NoPeriod refusal → (fault : EndFault) × (outcome ≡ Outcome.Refused fault) × (is_period outcome ≡ false)
+told_fault : (outcome : Outcome) (refusal : Refusal) → Tells outcome (Err refusal) → NoPeriod refusal → (fault : EndFault) × (outcome ≡ Outcome.Refused fault) × (is_period outcome ≡ false)
 told_fault Outcome.Unanswered refusal t h = absurd t
-told_fault Outcome.Done refusal t h = let z : ◌≡◌ {A = ℕ} 0 1 = cc in absurd (omega arith)
-told_fault (Outcome.Accepted report) refusal t h = let z : ◌≡◌ {A = ℕ} 0 1 = cc in absurd (omega arith)
+told_fault Outcome.Done refusal t h = cc
+told_fault (Outcome.Accepted report) refusal t h = cc
 told_fault (Outcome.Refused fault) refusal t h =
-    let e : refusal ≡ end_refusal fault = cc in
-    (fault, refl, no_period fault (subst NoPeriod e h))
+    let is : refusal ≡ end_refusal fault = cc in
+    (fault, refl, no_period fault (subst NoPeriod is h))
 
 stays : (a b : End) (outcome : Outcome) → is_period outcome ≡ false → Later (periods_of outcome) a b → Later 0 a b
 stays a b outcome e later = subst (λ n. Later n a b) (ap (λ t. cond t 1 0) e) later
@@ -49,7 +49,7 @@ unwritten : (X : Type 0) (found : List EndFault) (asked left : Call) (outcome : 
 unwritten X [] asked left outcome not h = absurd (not h)
 unwritten X (fault ∷ more) asked left outcome not h = h.0
 
-send_refused : (before after : Standing) (payload : List ℕ) (refusal : Refusal) → NoPeriod refusal → Sends before payload (Answer.Refused refusal) after → Unchanged before after
+send_refused : (before after : Standing) (payload : List ℕ) (refusal : Refusal) → NoPeriod refusal → Sends before payload (Err refusal) after → Unchanged before after
 send_refused before after payload refusal early s =
     let t = told_fault s.outcome refusal s.tells early in
     let asked = send s.characters s.symbol before.line in
@@ -59,7 +59,7 @@ send_refused before after payload refusal early s =
     let line : after.line ≡ before.line = cc in
     record { sender = stays _ _ s.outcome t.2 s.sender; receiver = s.receiver; lock = s.lock; line = line }
 
-receive_refused : (before after : Standing) (refusal : Refusal) → NoPeriod refusal → Receives before (Answer.Refused refusal) after → Unchanged before after
+receive_refused : (before after : Standing) (refusal : Refusal) → NoPeriod refusal → Receives before (Err refusal) after → Unchanged before after
 receive_refused before after refusal early r =
     let t = told_fault r.outcome refusal r.tells early in
     let p : is_period (Outcome.Refused t.0) ≡ false = subst (λ o. is_period o ≡ false) t.1 t.2 in
@@ -67,17 +67,11 @@ receive_refused before after refusal early r =
     ap (λ o. lock_after before.lock o) t.1 ∙ ap (λ b. cond b (next_lock before.lock FrameOutcome.BeyondRepair) before.lock) p in
     record { sender = r.sender; receiver = stays _ _ r.outcome t.2 r.receiver; lock = r.lock ∙ lock; line = r.line }
 
-hit_refused : (before after : Standing) (number : ℕ) (payload : List ℕ) (answer : Answer) (refusal : Refusal) → answer ≡ Answer.Refused refusal → Hits before number payload answer after → Unchanged before after
-hit_refused before after number payload answer refusal e (in_range is struck) = let z : ◌≡◌ {A = ℕ} 0 1 = cc in absurd (omega arith)
-hit_refused before after number payload answer refusal e (out_of_range none same) = same
-
-rest_refused : (before after : Standing) (answer : Answer) (refusal : Refusal) → answer ≡ Answer.Refused refusal → Rests before answer after → Unchanged before after
-rest_refused before after answer refusal e (both lock rested) = let z : ◌≡◌ {A = ℕ} 0 1 = cc in absurd (omega arith)
-rest_refused before after answer refusal e (neither lost same) = same
-
 pub changes_nothing : (before after : Standing) (number : ℕ) (head : Head) (payload : List ℕ) (answer : Answer) → Carries before number head payload answer after → RefusedChangesNothing before answer after
 changes_nothing before after number head payload answer (bad_head misfit same) refusal e early = same
 changes_nothing before after number head payload answer (sends fits s) refusal e early = send_refused before after payload refusal early (subst (λ a. Sends before payload a after) e s)
-changes_nothing before after number head payload answer (hits fits h) refusal e early = hit_refused before after number payload answer refusal e h
+changes_nothing before after number head payload answer (hits fits (in_range is struck)) refusal e early = cc
+changes_nothing before after number head payload answer (hits fits (out_of_range none same)) refusal e early = same
 changes_nothing before after number head payload answer (receives fits r) refusal e early = receive_refused before after refusal early (subst (λ a. Receives before a after) e r)
-changes_nothing before after number head payload answer (rests fits r) refusal e early = rest_refused before after answer refusal e r
+changes_nothing before after number head payload answer (rests fits (both lock rested)) refusal e early = cc
+changes_nothing before after number head payload answer (rests fits (neither lost same)) refusal e early = same

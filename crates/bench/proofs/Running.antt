@@ -1,5 +1,5 @@
 -- Records one after another. Assumes nothing.
-use Rattle.std.proofs.Common.{◌≡◌, ℕ, ◌+◌, ◌-◌, ◌≤◌, List, ◌++◌, length, take, drop, sym, subst, le_refl, arith, length-drop, take_all, take-add}
+use Rattle.std.proofs.Common.{◌≡◌, ℕ, ◌+◌, ◌-◌, ◌≤◌, List, ◌++◌, length, take, drop, sym, ap, ◌∙◌, subst, append_assoc, le_refl, arith, length-drop, take_all, take-add}
 use Rattle.bench.specs.Benches.{Standing}
 use Rattle.bench.specs.Files.{Steps, Runs, more}
 use Rattle.bench.specs.Printing.{line_of}
@@ -10,6 +10,10 @@ pub from_place : (octets : List ℕ) (n : ℕ) → take (length octets - n) (dro
 from_place octets n =
     let h : length (drop n octets) ≤ length octets - n = simp length-drop (le_refl _) in
     take_all (length octets - n) (drop n octets) h
+
+-- a line more, after a text that was added
+pub added : (before text middle line after : List ℕ) → middle ≡ before ++ text → after ≡ middle ++ line → after ≡ before ++ (text ++ line)
+added before text middle line after one two = two ∙ ap (λ l. l ++ line) one ∙ append_assoc before text line
 
 -- one record more
 pub one_more : (before : Standing) (number : ℕ) (octets text : List ℕ) (taken k : ℕ) (at after : Standing) (next : ℕ) (step : Step)

@@ -1,5 +1,5 @@
 -- What a record does to a bench, and what is told of it. Assumes nothing.
-use Rattle.std.specs.Prelude.{◌≡◌, ℕ, ◌<◌, ◌⊎◌, List, length, replicate, ℤ, pos, Ok, Err, Result, ◌≢◌, slice_set}
+use Rattle.std.specs.Prelude.{◌≡◌, ℕ, ◌<◌, ◌⊎◌, List, length, replicate, ℤ, pos, Option, Some, None, Result, Ok, Err, ◌≢◌, slice_set}
 use Rattle.refusal.specs.declared.kinds.Refusal.{Refusal}
 use Rattle.arithmetic.specs.Laws.{Operations}
 use Rattle.arithmetic.specs.declared.Arithmetic.{Ghosts}
@@ -11,15 +11,17 @@ use Rattle.codec.specs.declared.ends.Sender.{Sender}
 use Rattle.codec.specs.declared.ends.Receiver.{Receiver}
 use Rattle.codec.specs.declared.faults.EndFault.{EndFault}
 use Rattle.codec.specs.declared.lock.Lock.{Lock}
+use Rattle.codec.specs.declared.report.Report.{Report}
 use Rattle.codec.specs.declared.request.Outcome.{Outcome}
 use Rattle.bench.specs.Records.{FitsKind, FitsNoKind, send_payload, IsHit, IsNoHit}
+use Rattle.bench.specs.Printing.{Answer}
 use Rattle.bench.specs.Refusals.{bench_refusal}
 use Rattle.bench.specs.declared.bench.Bench.{Bench}
 use Rattle.bench.specs.declared.faults.BenchFault.{BenchFault}
-use Rattle.bench.specs.declared.kinds.Head.{Head}
-use Rattle.bench.specs.declared.kinds.Hit.{Hit}
-use Rattle.bench.specs.declared.kinds.Kind.{Kind}
-use Rattle.bench.specs.declared.printed.Answer.{Answer}
+use Rattle.bench.specs.declared.head.Head.{Head}
+use Rattle.bench.specs.declared.head.Kind.{Kind}
+use Rattle.bench.specs.declared.link.Link.{Link}
+use Rattle.bench.specs.declared.payload.Hit.{Hit}
 
 -- two ends, the receiver's lock, and the line between them
 pub record Standing : Type 0 where
@@ -28,10 +30,14 @@ pub record Standing : Type 0 where
   pub lock : Lock
   pub line : List ℤ
 
--- where a bench stands, from the parts of its ends
+-- where two ends and a line stand, from the parts of the ends
+abbrev pub link_standing : {A S L : Type 0} {g : Ghosts A} → (A → Operations) → (S → ℕ → ℕ) → (L → ℕ → ℤ × ℤ) → Link A S L g → Standing
+link_standing field mask pair link =
+    record { sender = sender_end field mask pair link.sender; receiver = receiver_end field mask pair link.receiver; lock = link.receiver.lock; line = link.line }
+
+-- where a bench stands
 abbrev pub standing : {A S L : Type 0} {g : Ghosts A} → (A → Operations) → (S → ℕ → ℕ) → (L → ℕ → ℤ × ℤ) → Bench A S L g → Standing
-standing field mask pair bench =
-    record { sender = sender_end field mask pair bench.sender; receiver = receiver_end field mask pair bench.receiver; lock = bench.receiver.lock; line = bench.line }
+standing field mask pair bench = link_standing field mask pair bench.link
 
 -- where a new bench stands: its line is zeros
 abbrev pub stands_new : {A S L : Type 0} {g : Ghosts A} → (A → Operations) → (S → ℕ → ℕ) → (L → ℕ → ℤ × ℤ) → Sender A S L g → Receiver A S L g → Standing
@@ -45,12 +51,12 @@ pub record Unchanged (before after : Standing) : Type 0 where
   pub lock : after.lock ≡ before.lock
   pub line : after.line ≡ before.line
 
--- what is told of a call's outcome: of an accepted frame its symbol, the number of its places and its invalid blocks
+-- what is told of a call's outcome: the report of an accepted frame, or the refusal of the end
 abbrev pub Tells : Outcome → Answer → Type 0
 Tells Outcome.Unanswered answer = ⊥
-Tells Outcome.Done answer = answer ≡ Answer.Done
-Tells (Outcome.Accepted report) answer = answer ≡ Answer.Accepted report.symbol report.places report.invalid
-Tells (Outcome.Refused fault) answer = answer ≡ Answer.Refused (end_refusal fault)
+Tells Outcome.Done answer = answer ≡ Ok None
+Tells (Outcome.Accepted report) answer = answer ≡ Ok (Some report)
+Tells (Outcome.Refused fault) answer = answer ≡ Err (end_refusal fault)
 
 -- a send's payload is sent: the sender's send onto the line
 pub record Sends (before : Standing) (payload : List ℕ) (answer : Answer) (after : Standing) : Type 0 where
@@ -82,7 +88,7 @@ pub record Receives (before : Standing) (answer : Answer) (after : Standing) : T
 
 -- the refusal of a record of this number that is none
 abbrev pub bad : ℕ → Answer
-bad number = Answer.Refused (bench_refusal (BenchFault.BadRecord number))
+bad number = Err (bench_refusal (BenchFault.BadRecord number))
 
 -- a place of the line has another symbol
 pub record Struck (before : Standing) (hit : Hit) (after : Standing) : Type 0 where
@@ -93,7 +99,7 @@ pub record Struck (before : Standing) (hit : Hit) (after : Standing) : Type 0 wh
 
 -- a hit's payload, the record's number and what becomes of it
 pub data Hits (before : Standing) (number : ℕ) (payload : List ℕ) : Answer → Standing → Type 0 where
-  in_range : {hit : Hit} {after : Standing} → IsHit payload hit → Struck before hit after → Hits before number payload Answer.Done after
+  in_range : {hit : Hit} {after : Standing} → IsHit payload hit → Struck before hit after → Hits before number payload (Ok None) after
   out_of_range : {after : Standing} → IsNoHit payload → Unchanged before after → Hits before number payload (bad number) after
 
 -- both ends are a period later, and the line is zeros
@@ -105,8 +111,8 @@ pub record Rested (before after : Standing) : Type 0 where
 
 -- the receiver rests and then the sender, or neither
 pub data Rests (before : Standing) : Answer → Standing → Type 0 where
-  both : {after : Standing} → (before.lock ≢ Lock.Lost) → Rested before after → Rests before Answer.Done after
-  neither : {after : Standing} → before.lock ≡ Lock.Lost → Unchanged before after → Rests before (Answer.Refused (end_refusal EndFault.NoLock)) after
+  both : {after : Standing} → (before.lock ≢ Lock.Lost) → Rested before after → Rests before (Ok None) after
+  neither : {after : Standing} → before.lock ≡ Lock.Lost → Unchanged before after → Rests before (Err (end_refusal EndFault.NoLock)) after
 
 -- a record of this number, with its head and payload: what is told of it, and where the bench stands then
 pub data Carries (before : Standing) (number : ℕ) (head : Head) (payload : List ℕ) : Answer → Standing → Type 0 where
@@ -116,10 +122,10 @@ pub data Carries (before : Standing) (number : ℕ) (head : Head) (payload : Lis
   receives : {answer : Answer} {after : Standing} → FitsKind head Kind.Receive → Receives before answer after → Carries before number head payload answer after
   rests : {answer : Answer} {after : Standing} → FitsKind head Kind.Rest → Rests before answer after → Carries before number head payload answer after
 
--- what is told where a record may be none
-abbrev pub answered : Result Answer BenchFault → Answer
-answered (Ok answer) = answer
-answered (Err fault) = Answer.Refused (bench_refusal fault)
+-- what is told of a record: a fault by its refusal
+abbrev pub answered : Result (Option Report) BenchFault → Answer
+answered (Ok report) = Ok report
+answered (Err fault) = Err (bench_refusal fault)
 
 -- a refusal other than of a frame beyond repair: 1 to 6 of an end, or 11 and 12 of a record
 abbrev pub NoPeriod : Refusal → Type 0
@@ -127,4 +133,4 @@ NoPeriod refusal = (refusal.number < 7) ⊎ (10 < refusal.number)
 
 -- a record that is so refused leaves the bench where it stood
 abbrev pub RefusedChangesNothing : Standing → Answer → Standing → Type 0
-RefusedChangesNothing before answer after = (refusal : Refusal) → answer ≡ Answer.Refused refusal → NoPeriod refusal → Unchanged before after
+RefusedChangesNothing before answer after = (refusal : Refusal) → answer ≡ Err refusal → NoPeriod refusal → Unchanged before after

@@ -1,13 +1,12 @@
 -- The records of a file, one after another, and where it ends. Assumes nothing.
-use Rattle.std.specs.Prelude.{◌≡◌, ℕ, ◌+◌, ◌%◌, ◌^◌, ◌<◌, ◌≤◌, List, [], ◌++◌, length, take, drop, ◌≢◌}
+use Rattle.std.specs.Prelude.{◌≡◌, ℕ, ◌+◌, ◌%◌, ◌^◌, ◌<◌, ◌≤◌, List, [], ◌++◌, length, take, drop, Err, ◌≢◌}
 use Rattle.bench.specs.Records.{two_octets, FitsNoKind}
 use Rattle.bench.specs.Printing.{line_of}
 use Rattle.bench.specs.Refusals.{bench_refusal}
 use Rattle.bench.specs.Benches.{Standing, Carries, bad}
 use Rattle.bench.specs.declared.bench.Step.{Step}
 use Rattle.bench.specs.declared.faults.BenchFault.{BenchFault}
-use Rattle.bench.specs.declared.kinds.Head.{Head}
-use Rattle.bench.specs.declared.printed.Answer.{Answer}
+use Rattle.bench.specs.declared.head.Head.{Head}
 use Rattle.bench.specs.declared.printed.Printed.{Printed}
 
 -- a head: the length of the payload, then the kind
@@ -54,7 +53,7 @@ pub record Ran (before : Standing) (number : ℕ) (octets : List ℕ) (printed :
 
 -- what is printed of a record of this number that is cut
 abbrev pub cut : ℕ → Printed
-cut number = record { kind = 0; answer = Answer.Refused (bench_refusal (BenchFault.CutRecord number)) }
+cut number = record { kind = 0; answer = Err (bench_refusal (BenchFault.CutRecord number)) }
 
 -- what is printed of a record of this number whose head fits no kind
 pub record Misfit (number : ℕ) (octets : List ℕ) (printed : Printed) : Type 0 where

@@ -1,10 +1,10 @@
 -- The octets of bench records. Assumes nothing.
 use Rattle.std.specs.Prelude.{◌≡◌, ℕ, ◌/◌, ◌%◌, ◌<◌, List, [], ◌∷◌, ◌++◌, pos, ◌-ℤ◌}
 use Rattle.std.specs.List.{flat_map}
-use Rattle.bench.specs.declared.kinds.Kind.{Kind}
-use Rattle.bench.specs.declared.kinds.Kind.TheVariants.{Send, Hit as Hits, Receive, Rest}
-use Rattle.bench.specs.declared.kinds.Head.{Head}
-use Rattle.bench.specs.declared.kinds.Hit.{Hit}
+use Rattle.bench.specs.declared.head.Kind.{Kind}
+use Rattle.bench.specs.declared.head.Kind.TheVariants.{Send, Hit as Hits, Receive, Rest}
+use Rattle.bench.specs.declared.head.Head.{Head}
+use Rattle.bench.specs.declared.payload.Hit.{Hit}
 
 -- a number of two octets, the octet of weight 1 first
 abbrev pub two_octets : ℕ → List ℕ

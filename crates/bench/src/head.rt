@@ -3,13 +3,32 @@ ghost use Rattle.std.specs.Prelude.{◌≡◌, ◌<◌, [], ◌∷◌, ◌++◌,
 ghost use Rattle.bench.specs.Records.{two_octets, FitsKind, FitsNoKind};
 
 use crate::faults::BenchFault;
-use crate::kinds::{Head, Kind};
+
+/// What a record asks for.
+#[derive(Clone, Copy, PartialEq, Eq, Debug)]
+pub enum Kind {
+    /// Sends a frame onto the line.
+    Send,
+    /// Changes one symbol of the line.
+    Hit,
+    /// Receives the line.
+    Receive,
+    /// Rests both ends.
+    Rest,
+}
+
+/// The first four octets of a record: the length of its payload, and the number of its kind.
+#[derive(Clone, Copy, PartialEq, Eq, Debug)]
+pub struct Head {
+    pub length: u16,
+    pub kind: u16,
+}
 
 /// The number of two octets, the first at weight 1.
 pub(crate) fn two(low: u8, high: u8) -> u16
     ensures { two_octets result ≡ low ∷ high ∷ [] }
 {
-    low as u16 + 256 * high as u16
+    u16::from_le_bytes([low, high])
 }
 
 /// Reads the head with which octets begin; there is none in fewer than four.
@@ -30,6 +49,7 @@ impl Head {
     pub fn judge(self, number: usize) -> Result<Kind, BenchFault>
         ensures kind_with_its_length_or_refused { MatchResult result (λ k. FitsKind self k) (λ e. FitsNoKind self × (e ≡ BenchFault.BadRecord number)) }
     {
+        // A row for each kind: its number and the length of its payload, which a TryFrom of the number would take apart.
         match (self.kind, self.length) {
             (1, 902) => Ok(Kind::Send),
             (2, 3) => Ok(Kind::Hit),

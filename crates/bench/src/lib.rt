@@ -1,26 +1,23 @@
 //! The bench: records that drive two ends over a line, and the lines that are printed of them.
+//! It stands on the codec, and calls its ends as anyone may.
+//! It does not know where octets come from and where lines go.
 #![tactic(auto)]
 
 mod bench;
-mod carrying;
 mod faults;
-mod files;
 mod head;
-mod kinds;
+mod link;
 mod payload;
 mod printed;
-mod printing;
-mod refusals;
+mod record;
 mod standard;
-mod step;
 #[cfg(test)]
 mod tests;
 
 pub use bench::{Bench, Step};
 pub use faults::BenchFault;
-pub use head::read_head;
-pub use kinds::{Head, Hit, Kind};
-pub use payload::{read_hit, read_send};
-pub use printed::{Answer, Printed};
-pub use printing::print_line;
+pub use head::{Head, Kind, read_head};
+pub use payload::{Hit, read_hit, read_send};
+pub use printed::{Answer, Printed, print_line};
+pub use refusal::Fault;
 pub use standard::standard_bench;

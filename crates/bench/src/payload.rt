@@ -4,7 +4,13 @@ ghost use Rattle.bench.specs.Records.{send_payload, IsHit, IsNoHit};
 
 use crate::faults::BenchFault;
 use crate::head::two;
-use crate::kinds::Hit;
+
+/// A place of the line, and the symbol that is put there.
+#[derive(Clone, Copy, PartialEq, Eq, Debug)]
+pub struct Hit {
+    pub place: usize,
+    pub symbol: i8,
+}
 
 /// Reads a send's payload: the characters into the buffer, as many as it holds, and the management symbol as the answer.
 /// A payload of another length is refused; `number` is the record's number.
@@ -14,26 +20,31 @@ pub fn read_send(payload: &[u8], number: usize, characters: &mut [u16]) -> Resul
         (λ e. (length payload.now ≢ 2 + 2 * length characters.old) × (e ≡ BenchFault.BadRecord number)) }
     ensures refusal_writes_nothing { OnErr result (characters.new ≡ characters.old) }
 {
-    if payload.len() % 2 != 0 || payload.len() / 2 != characters.len() + 1 {
-        return Err(BenchFault::BadRecord { record: number });
+    let bad = BenchFault::BadRecord { record: number };
+    let [low, high, numbers @ ..] = payload else {
+        return Err(bad);
+    };
+    if numbers.len() != 2 * characters.len() {
+        return Err(bad);
     }
-    let symbol = two(payload[0], payload[1]);
-    for k in 0..characters.len() {
-        characters[k] = two(payload[2 * k + 2], payload[2 * k + 3]);
+    // A zip with chunks_exact was tried: a proof knows nothing of what it leaves in the characters.
+    for (k, c) in characters.iter_mut().enumerate() {
+        *c = two(numbers[2 * k], numbers[2 * k + 1]);
     }
-    Ok(symbol)
+    Ok(two(*low, *high))
 }
 
 /// Reads a hit's payload; `number` is the record's number.
 pub fn read_hit(payload: &[u8], number: usize) -> Result<Hit, BenchFault>
     ensures hit_or_refused { MatchResult result (λ hit. IsHit payload.now hit) (λ e. IsNoHit payload.now × (e ≡ BenchFault.BadRecord number)) }
 {
+    let bad = BenchFault::BadRecord { record: number };
     let [low, high, written] = payload else {
-        return Err(BenchFault::BadRecord { record: number });
+        return Err(bad);
     };
-    let place = two(*low, *high) as usize;
+    let place = usize::from(two(*low, *high));
     if place >= 2700 || *written > 2 {
-        return Err(BenchFault::BadRecord { record: number });
+        return Err(bad);
     }
     Ok(Hit {
         place,

@@ -1,25 +1,48 @@
 //! What is printed of a record.
-use refusal::Refusal;
+ghost use Rattle.std.specs.Prelude.{◌≡◌, ◌++◌, Some, string_bytes, OnOk};
+ghost use Rattle.bench.specs.Printing.{text_of, line_of};
 
-/// What became of a record.
-#[derive(Clone, Copy)]
-pub enum Answer {
-    /// Done, with nothing to tell.
-    Done,
-    /// A frame was accepted: its management symbol, the number of its damaged groups, and the set of its invalid blocks.
-    Accepted {
-        symbol: u16,
-        places: usize,
-        invalid: u64,
-    },
-    Refused {
-        refusal: Refusal,
-    },
-}
+use codec::Report;
+use refusal::Refusal;
+use std::fmt;
+
+/// What became of a record: of an accepted frame its report, otherwise nothing to tell, or why it was refused.
+pub type Answer = Result<Option<Report>, Refusal>;
 
 /// The kind of a record, and what became of it.
-#[derive(Clone, Copy)]
+#[derive(Clone, Copy, PartialEq, Eq, Debug)]
 pub struct Printed {
+    /// As the head says it, also where no kind has this number; 0 where the record is cut.
     pub kind: u16,
     pub answer: Answer,
+}
+
+impl fmt::Display for Printed {
+    ghost output = { λ printed. Some (text_of printed) };
+
+    fn fmt<W: fmt::Write>(&self, f: &mut fmt::Formatter<W>) -> fmt::Result {
+        let kind = self.kind;
+        match self.answer {
+            Ok(None) => write!(f, "{kind} 0"),
+            Ok(
+                Some(
+                    Report {
+                        symbol,
+                        places,
+                        invalid,
+                        ..
+                    },
+                ),
+            ) => write!(f, "{kind} 0 {symbol} {places} {invalid}"),
+            Err(Refusal { number, .. }) => write!(f, "{kind} {number}"),
+        }
+    }
+}
+
+/// Adds the line that is printed of a record to what was printed before.
+pub fn print_line(printed: Printed, out: &mut String) -> fmt::Result
+    ensures adds_the_line { OnOk result (string_bytes out.new ≡ string_bytes out.old ++ line_of printed) }
+{
+    writeln!(out, "{printed}")?;
+    Ok(())
 }

@@ -6,13 +6,8 @@ use std::test::Fail;
 #[test]
 fn one_hit_is_repaired(rt: HostRuntime) -> Result<(), Fail> {
     let mut octets = [0u8; 917];
-    octets[0] = 134;
-    octets[1] = 3;
-    octets[2] = 1;
-    octets[906] = 3;
-    octets[908] = 2;
-    octets[912] = 2;
-    octets[915] = 3;
+    octets[..4].copy_from_slice(&[134, 3, 1, 0]);
+    octets[906..].copy_from_slice(&[3, 0, 2, 0, 0, 0, 2, 0, 0, 3, 0]);
     let mut bench = standard_bench();
     let mut out = String::new(rt.alloc());
     assert_eq!(rt; bench.run(&octets, &mut out)?, 917);

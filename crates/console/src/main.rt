@@ -19,15 +19,13 @@ fn run(rt: &HostRuntime) -> anyhow::Result<()> {
         if n == 0 {
             break;
         }
-        held.extend_from_slice(&piece[0..n])?;
-        let taken = bench.run(held.as_slice(), &mut out)?;
-        let left = held.len() - taken;
-        held.copy_within(taken.., 0);
-        held.truncate(left);
+        held.extend_from_slice(&piece[..n])?;
+        let taken = bench.run(&held, &mut out)?;
+        held.drain(..taken);
         rt.stdout().write_all(out.as_bytes())?;
         out.clear();
     }
-    bench.end(held.as_slice(), &mut out)?;
+    bench.end(&held, &mut out)?;
     rt.stdout().write_all(out.as_bytes())?;
     Ok(())
 }

@@ -2,28 +2,25 @@
 #![tactic(auto)]
 
 use codec::{read_block, write_block};
-use std::io;
+use std::{array, io};
+
+const CONTROLS: [u16; 4] = [256, 257, 258, 261];
 
 /// Ten characters with a control at each place whose bit is set in the layout, the first place at weight 1.
 fn characters_of(layout: u16) -> [u16; 10] {
-    let controls = [256, 257, 258, 261];
-    let mut characters = [0u16; 10];
-    let mut rest = layout;
-    for (k, c) in characters.iter_mut().enumerate() {
-        *c = if rest % 2 == 0 {
+    array::from_fn(|k| {
+        if layout >> k & 1 == 0 {
             (layout / 4 + 25 * k as u16) % 256
         } else {
-            controls[(layout as usize + k) % 4]
-        };
-        rest /= 2;
-    }
-    characters
+            CONTROLS[(usize::from(layout) + k) % 4]
+        }
+    })
 }
 
 /// Whether ten characters come back from the block that they make.
 fn returns(characters: &[u16; 10]) -> bool {
-    let mut block = [0u8; 11];
-    let mut back = [0u16; 10];
+    let mut block = [0; 11];
+    let mut back = [0; 10];
     write_block(characters, &mut block).is_ok()
         && read_block(&block, &mut back).is_ok()
         && back == *characters

@@ -1,18 +1,16 @@
 //! Two ends whose arithmetics are of different kinds.
-ghost use Rattle.std.specs.Prelude.{OnOk};
 ghost use Rattle.codec.specs.Histories.{history};
 ghost use Rattle.codec.specs.Law.{SentComesBack};
 
 use arithmetic::{Shifting, Tabled};
-use codec::{MakingFault, Receiver, Ring, Role, Scrambler, Sender, Turn, exchange};
+use codec::{Receiver, Ring, Role, Scrambler, Seed, Sender, Turn, exchange};
 
 /// Carries out calls on a sender that shifts and a receiver that looks up: they agree, so what was sent comes back.
-pub fn exchange_of_two_kinds(turns: &mut Vec<Turn>) -> Result<(), MakingFault>
-    ensures sent_comes_back { OnOk result (SentComesBack (history turns.old.items turns.new.items)) }
+pub fn exchange_of_two_kinds(turns: &mut Vec<Turn>)
+    ensures sent_comes_back { SentComesBack (history turns.old.items turns.new.items) }
 {
-    let stream = Scrambler::new(Role::Master, 1)?;
+    let stream = Scrambler::from_seed(Role::Master, Seed::ONE);
     let mut sender = Sender::new(Shifting, stream, Ring);
     let mut receiver = Receiver::new(Tabled, stream, Ring);
     exchange(&mut sender, &mut receiver, turns);
-    Ok(())
 }

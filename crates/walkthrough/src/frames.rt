@@ -1,42 +1,50 @@
 //! Frames carried from characters to the line and back.
 use crate::agreeing::exchange_of_two_kinds;
-use anyhow::anyhow;
+use crate::lists::print_each;
 use arithmetic::Tabled;
-use codec::{EndFault, Outcome, Receiver, Report, Request, Ring, Role, Scrambler, Sender, Turn};
-use std::io;
+use codec::{
+    EndFault, Outcome, Receiver, Receiving, Report, Request, Ring, Role, Scrambler, Seed, Sender,
+    Sending, Turn,
+};
+use refusal::Fault;
+use std::{array, io};
 
 /// The management symbol of the frames here.
 const SYMBOL: u16 = 300;
 
 /// A packet between idles: data with an error mark in it, and low power at the end.
 fn characters() -> [u16; 450] {
-    let mut characters = [258u16; 450];
-    for k in 20..420usize {
-        characters[k] = (7 * k % 256) as u16;
-    }
-    characters[419] = 257;
-    for k in 440..450usize {
-        characters[k] = 261;
-    }
-    characters
+    array::from_fn(|k| match k {
+        20..419 => (7 * k % 256) as u16,
+        419 => 257,
+        440.. => 261,
+        _ => 258,
+    })
 }
 
 /// The stream of a master at state 1.
-fn master() -> anyhow::Result<Scrambler> {
-    match Scrambler::new(Role::Master, 1) {
-        Ok(stream) => Ok(stream),
-        Err(_) => Err(anyhow!("the seed is refused")),
-    }
+fn master() -> Scrambler {
+    Scrambler::from_seed(Role::Master, Seed::ONE)
+}
+
+/// The line frame of these characters, as such a master sends it.
+fn line_frame() -> Result<[i8; 2700], EndFault> {
+    let mut line = [0i8; 2700];
+    Sender::new(Tabled, master(), Ring).send(&characters(), SYMBOL, &mut line)?;
+    Ok(line)
 }
 
 /// Damages as many groups, every twentieth from the fourth on: one symbol of each is another one.
 fn damage(line: &mut [i8; 2700], groups: usize) {
-    for i in 0..groups {
-        let place = 6 * ((20 * (i % 450) + 3) % 450) + i % 6;
-        line[place] = if line[place] == 0 { 1 } else { 0 };
+    let damaged = line.chunks_exact_mut(6).skip(3).step_by(20).take(groups);
+    for (i, group) in damaged.enumerate() {
+        if let Some(symbol) = group.get_mut(i % 6) {
+            *symbol = if *symbol == 0 { 1 } else { 0 };
+        }
     }
 }
 
+/// Prints an answer. How a report reads here is this program's own.
 fn print_outcome(rt: &HostRuntime, answer: Result<Report, EndFault>) -> io::Result<()> {
     match answer {
         Ok(report) => println!(rt;
@@ -53,33 +61,24 @@ fn print_outcome(rt: &HostRuntime, answer: Result<Report, EndFault>) -> io::Resu
 /// A frame sent, 22 of its groups damaged, received and repaired.
 pub(crate) fn damaged_frame(rt: &HostRuntime) -> anyhow::Result<()> {
     println!(rt; "A frame of 450 characters on the line, with 22 groups damaged:")?;
-    let stream = master()?;
-    let mut sender = Sender::new(Tabled, stream, Ring);
-    let mut receiver = Receiver::new(Tabled, stream, Ring);
-    let sent = characters();
-    let mut line = [0i8; 2700];
-    if let Err(fault) = sender.send(&sent, SYMBOL, &mut line) {
-        let why = fault.refusal();
-        println!(rt; "  {why}")?;
-    }
+    let mut receiver = Receiver::new(Tabled, master(), Ring);
+    let mut line = line_frame()?;
     damage(&mut line, 22);
     let mut received = [0u16; 450];
     let mut places = [0u16; 22];
     let answer = receiver.receive(&line, &mut received, &mut places);
     print_outcome(rt, answer)?;
     print!(rt; "  repaired groups")?;
-    for place in places.iter() {
-        print!(rt; " {place}")?;
-    }
+    print_each(rt, &places)?;
     println!(rt; "")?;
-    println!(rt; "  the characters came back: {}", received == sent)?;
+    println!(rt; "  the characters came back: {}", received == characters())?;
     Ok(())
 }
 
 /// Bad frames until lock is lost.
-pub(crate) fn lost_lock(rt: &HostRuntime) -> anyhow::Result<()> {
+pub(crate) fn lost_lock(rt: &HostRuntime) -> io::Result<()> {
     println!(rt; "Bad frames, lines of zeros:")?;
-    let mut receiver = Receiver::new(Tabled, master()?, Ring);
+    let mut receiver = Receiver::new(Tabled, master(), Ring);
     let line = [0i8; 2700];
     let mut received = [0u16; 450];
     let mut places = [0u16; 22];
@@ -106,9 +105,7 @@ fn print_turn(rt: &HostRuntime, turn: &Turn) -> io::Result<()> {
 pub(crate) fn a_list_of_calls(rt: &HostRuntime) -> anyhow::Result<()> {
     println!(rt; "A list of calls, the sender over shifting and the receiver over tables:")?;
     let heap = rt.alloc();
-    let mut line = [0i8; 2700];
-    let mut sender = Sender::new(Tabled, master()?, Ring);
-    let _ = sender.send(&characters(), SYMBOL, &mut line);
+    let mut line = line_frame()?;
     damage(&mut line, 5);
     let mut turns = vec![in heap;
         Turn {
@@ -138,9 +135,7 @@ pub(crate) fn a_list_of_calls(rt: &HostRuntime) -> anyhow::Result<()> {
             outcome: Outcome::Unanswered
         },
     ]?;
-    if exchange_of_two_kinds(&mut turns).is_err() {
-        return Err(anyhow!("the seed is refused"));
-    }
+    exchange_of_two_kinds(&mut turns);
     for turn in turns.iter() {
         print_turn(rt, turn)?;
     }

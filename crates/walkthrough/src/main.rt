@@ -4,6 +4,7 @@
 mod agreeing;
 mod arithmetics;
 mod frames;
+mod lists;
 mod packets;
 mod pairs;
 mod words;

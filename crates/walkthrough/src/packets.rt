@@ -1,21 +1,18 @@
 //! A packet's tail in a block, and blocks that encode nothing.
+use crate::lists::print_each;
 use codec::{read_block, write_block};
-use refusal::{Layer, Refusal};
+use refusal::Fault;
 use std::io;
 
 fn print_block(rt: &HostRuntime, block: &[u8; 11]) -> io::Result<()> {
     print!(rt; "  header {}, payload", block[0])?;
-    for octet in block.iter().skip(1) {
-        print!(rt; " {octet}")?;
-    }
+    print_each(rt, &block[1..])?;
     println!(rt; "")
 }
 
 fn print_characters(rt: &HostRuntime, characters: &[u16; 10]) -> io::Result<()> {
     print!(rt; "  characters")?;
-    for c in characters.iter() {
-        print!(rt; " {c}")?;
-    }
+    print_each(rt, characters)?;
     println!(rt; "")
 }
 

@@ -1,24 +1,19 @@
 //! A word completed, damaged and repaired.
 use arithmetic::Tabled;
 use code::Code;
-use refusal::Refusal;
-use std::io;
+use refusal::{Fault, Refusal};
+use std::{array, io};
 
 /// Changes as many symbols, every nineteenth from the eighth on.
 fn damage(word: &mut [u16; 450], count: usize) {
-    for i in 0..count {
-        let place = (19 * (i % 450) + 7) % 450;
-        word[place] = (word[place] % 512) ^ 1;
+    for symbol in word.iter_mut().skip(7).step_by(19).take(count) {
+        *symbol = (*symbol % 512) ^ 1;
     }
 }
 
 /// Some message, before its check symbols.
 fn message() -> [u16; 450] {
-    let mut word = [0u16; 450];
-    for i in 0..406usize {
-        word[i] = (7 * i % 512) as u16;
-    }
-    word
+    array::from_fn(|i| if i < 406 { (7 * i % 512) as u16 } else { 0 })
 }
 
 /// Completes a word, damages 22 and 23 of its symbols, and repairs it.
@@ -34,15 +29,15 @@ pub(crate) fn damaged_words(rt: &HostRuntime) -> io::Result<()> {
         "completed: the last symbols are {} {} {}",
         sent[447], sent[448], sent[449]
     )?;
-    for count in 22..24usize {
+    for count in [22, 23] {
         let mut received = sent;
         damage(&mut received, count);
         let before = received;
         match code.repair(&mut received) {
             Ok(changed) => {
                 print!(rt; "{count} damaged: {changed} symbols repaired, at")?;
-                for place in 0..450usize {
-                    if before[place] != received[place] {
+                for (place, (was, is)) in before.iter().zip(received.iter()).enumerate() {
+                    if was != is {
                         print!(rt; " {place}")?;
                     }
                 }

@@ -1,7 +1,8 @@
-use Rattle.std.proofs.Common.{◌≡◌, ◌+◌, ◌*◌, take}
-use Rattle.bench.specs.Records.{send_payload}
+use Rattle.std.proofs.Common.{◌≡◌, ◌*◌, take}
+use Rattle.std.specs.List.{flat_map}
+use Rattle.bench.specs.Records.{two_octets}
 use Rattle.bench.proofs.payload.read_send.Given as goal
 
--- what is read so far is a send's payload
+-- the numbers read so far are those of the characters
 abbrev pub invariant-loop-k : goal.invariant-loop-k
-invariant-loop-k l = take (2 * l.k + 2) l.payload ≡ send_payload l.symbol (take l.k l.characters)
+invariant-loop-k l = take (2 * l.k) l.numbers ≡ flat_map two_octets (take l.k l.characters)

@@ -1,8 +1,8 @@
-use Rattle.std.proofs.Common.{[], ◌++◌, string_bytes, sym, ap, ◌∙◌, subst, append_assoc, append-nil, zero-le}
+use Rattle.std.proofs.Common.{[], ◌++◌, string_bytes, sym, subst, append-nil, zero-le}
 use Rattle.bench.specs.Benches.{standing}
 use Rattle.bench.specs.Files.{Ran, NoRecord, none}
 use Rattle.bench.specs.Printing.{line_of}
-use Rattle.bench.proofs.Running.{one_more, from_place}
+use Rattle.bench.proofs.Running.{added, one_more, from_place}
 use Rattle.bench.proofs.bench.Bench.run.Goals as goal
 
 pub loop-step-init : goal.loop-step-init
@@ -13,7 +13,7 @@ loop-step-preserved g c =
     let inv = c.loop-step.invariant in
     let m = one_more _ _ c.args.octets.now _ _ _ _ _ _ c.in-Some.step inv.2 inv.3 c.in-Some.ensures.first_record_or_none in (
       inv.0 ++ line_of c.in-Some.step.printed,
-      c.in_ok-print_line.ensures.adds_the_line ∙ ap (λ l. l ++ line_of c.in-Some.step.printed) inv.1 ∙ append_assoc (string_bytes c.args.out.now) inv.0 (line_of c.in-Some.step.printed),
+      added (string_bytes c.args.out.now) inv.0 _ (line_of c.in-Some.step.printed) _ inv.1 c.in_ok-print_line.ensures.adds_the_line,
       m.0,
       m.1,
     )
