@@ -1,15 +1,15 @@
 -- What tables that follow their rule hold, and products and inverses by them. Assumes nothing.
-use Rattle.std.proofs.Common.{◌≡◌, ℕ, zero, suc, ◌+◌, ◌-◌, ◌*◌, ◌%◌, ◌<◌, ◌≤◌, Bool, T, eqb, List, get_or, sym, ap, ◌∙◌, ap₂, add-one, arith, eqb→eq}
+use Rattle.std.proofs.Common.{◌≡◌, ℕ, zero, suc, ◌+◌, ◌-◌, ◌*◌, ◌%◌, ◌<◌, ◌≤◌, Bool, true, eqb, List, get_or, sym, ap, ◌∙◌, ap₂, add-one, arith}
+use Rattle.std.proofs.lemmas.Bool.{agree_below, agree_below_at, eqb-true}
 use Rattle.arithmetic.specs.Laws.{power}
 use Rattle.arithmetic.specs.Polynomials.{twice, product, inverse, polynomials}
 use Rattle.arithmetic.specs.Tables.{Tables}
-use Rattle.arithmetic.specs.EachBelow.{both, both_left, both_right, below, below_at}
 use Rattle.arithmetic.specs.Linear.{shifted, shifted_add}
 use Rattle.arithmetic.specs.Computed.{log, log_below, log_right}
 use Rattle.arithmetic.specs.Algebra.{power_two, power_add, rounds, product_low, product_comm}
 use Rattle.arithmetic.specs.Inverses.{nothing_times, inverse_low, inverse_shifted}
 
--- ---- the rule as one test over both tables
+-- ---- the rule as a test at each entry
 
 unfoldable pub doubled : List ℕ → ℕ → Bool
 doubled powers k = eqb (get_or powers (suc k) 0) (twice (get_or powers k 0))
@@ -17,28 +17,18 @@ doubled powers k = eqb (get_or powers (suc k) 0) (twice (get_or powers k 0))
 unfoldable pub undone : List ℕ → List ℕ → ℕ → Bool
 undone powers logarithms k = eqb (get_or logarithms (get_or powers k 0) 0) k
 
-abbrev ends : List ℕ → List ℕ → Bool
-ends powers logarithms = both (eqb (get_or powers 0 0) 1) (both (eqb (get_or powers 511 0) 1) (eqb (get_or logarithms 0 0) 511))
-
-abbrev pub follow : List ℕ → List ℕ → Bool
-follow powers logarithms = both (ends powers logarithms) (both (below (doubled powers) 511) (below (undone powers logarithms) 511))
-
-pub tables_follow : (powers logarithms : List ℕ) → T (follow powers logarithms) → Tables powers logarithms
+pub tables_follow : (powers logarithms : List ℕ) → get_or powers 0 0 ≡ 1 → get_or powers 511 0 ≡ 1 → get_or logarithms 0 0 ≡ 511
+    → agree_below (doubled powers) (λ k. true) 511 ≡ true → agree_below (undone powers logarithms) (λ k. true) 511 ≡ true → Tables powers logarithms
 unfolding doubled undone
-tables_follow p l t =
-    let e = both_left (ends p l) _ t in
-    let r = both_right (ends p l) _ t in
-    let e' = both_right (eqb (get_or p 0 0) 1) _ e in
-    record {
-      starts = eqb→eq (get_or p 0 0) 1 (both_left (eqb (get_or p 0 0) 1) _ e);
-      doubles = λ k h.
-          ap (λ n. get_or p n 0) (add-one k)
-          ∙ eqb→eq (get_or p (suc k) 0) (twice (get_or p k 0)) (below_at (doubled p) 511 (both_left (below (doubled p) 511) _ r) k h);
-      comes_round = eqb→eq (get_or p 511 0) 1 (both_left (eqb (get_or p 511 0) 1) _ e');
-      undone = λ k h.
-          eqb→eq (get_or l (get_or p k 0) 0) k (below_at (undone p l) 511 (both_right (below (doubled p) 511) _ r) k h);
-      none_of_zero = eqb→eq (get_or l 0 0) 511 (both_right (eqb (get_or p 511 0) 1) _ e');
-    }
+tables_follow p l first last none doubles undoes = record {
+  starts = first;
+  doubles = λ k h.
+      ap (λ n. get_or p n 0) (add-one k)
+      ∙ eqb-true (get_or p (suc k) 0) (twice (get_or p k 0)) (agree_below_at (doubled p) (λ k. true) 511 k doubles h);
+  comes_round = last;
+  undone = λ k h. eqb-true (get_or l (get_or p k 0) 0) k (agree_below_at (undone p l) (λ k. true) 511 k undoes h);
+  none_of_zero = none;
+}
 
 -- ---- what stands in the tables
 

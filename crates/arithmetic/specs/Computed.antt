@@ -1,8 +1,8 @@
 -- What is computed at each of the 512 elements: each but 0 is a power of α. Assumes nothing.
 use Rattle.std.specs.Prelude.{◌≡◌, ℕ, zero, suc, ◌+◌, ◌<◌, Bool, true, false, T, List, [], ◌∷◌, length, ◌==◌, nat_lt, slice_index, refl}
-use Rattle.std.proofs.Common.{sym, ap, ◌∙◌, subst, le_of_suc-le-suc, not-suc-le-zero, arith, eqb→eq, leb→le}
+use Rattle.std.proofs.Common.{sym, ap, ◌∙◌, subst, le_of_suc-le-suc, not-suc-le-zero, arith, eqb→eq}
 use Rattle.arithmetic.specs.Polynomials.{twice, gathered}
-use Rattle.arithmetic.specs.EachBelow.{below, below_at}
+use Rattle.std.proofs.lemmas.Bool.{agree_below, agree_below_at, eqb-true, ltb-true}
 use Rattle.arithmetic.specs.Linear.{shifted, shifted_add}
 
 -- ---- the powers of α, and the place of a number among them
@@ -42,13 +42,13 @@ place_at (x ∷ xs) a h = place_step xs x a (place_at xs a) (x == a) refl h
 unit_product : ℕ → Bool
 unit_product b = gathered 9 1 b == b
 
-unit_products : T (below unit_product 512)
+unit_products : agree_below unit_product (λ n. true) 512 ≡ true
 unfolding unit_product gathered twice
-unit_products = tt
+unit_products = refl
 
 pub gathered_one : (b : ℕ) → b < 512 → gathered 9 1 b ≡ b
 unfolding unit_product
-gathered_one b h = eqb→eq (gathered 9 1 b) b (below_at unit_product 512 unit_products b h)
+gathered_one b h = eqb-true (gathered 9 1 b) b (agree_below_at unit_product (λ n. true) 512 b unit_products h)
 
 unfoldable pub powers : List ℕ
 powers = iterated 511 1
@@ -56,16 +56,16 @@ powers = iterated 511 1
 has_place : List ℕ → ℕ → Bool
 has_place xs a = nat_lt (place xs (suc a)) 511
 
-have_places : T (below (has_place powers) 511)
+have_places : agree_below (has_place powers) (λ n. true) 511 ≡ true
 unfolding has_place place powers iterated twice
-have_places = tt
+have_places = refl
 
 comes_once : List ℕ → ℕ → Bool
 comes_once xs k = place xs (slice_index xs k) == k
 
-come_once : T (below (comes_once powers) 511)
+come_once : agree_below (comes_once powers) (λ n. true) 511 ≡ true
 unfolding comes_once place powers iterated twice
-come_once = tt
+come_once = refl
 
 powers_length : length powers ≡ 511
 unfolding powers iterated twice
@@ -82,7 +82,7 @@ power_at k h = iterated_at 511 1 k h
 pub log_below : (a : ℕ) → 0 < a → a < 512 → log a < 511
 unfolding has_place log
 log_below zero h l = absurd (omega arith)
-log_below (suc a) h l = leb→le _ _ (below_at (has_place powers) 511 have_places a (omega arith))
+log_below (suc a) h l = ltb-true _ _ (agree_below_at (has_place powers) (λ n. true) 511 a have_places (omega arith))
 
 pub log_right : (a : ℕ) → 0 < a → a < 512 → shifted (log a) 1 ≡ a
 unfolding log
@@ -93,4 +93,4 @@ log_right a h l =
 pub log_of : (k : ℕ) → k < 511 → log (shifted k 1) ≡ k
 unfolding comes_once log
 log_of k h =
-    ap log (sym (power_at k h)) ∙ eqb→eq (log (slice_index powers k)) k (below_at (comes_once powers) 511 come_once k h)
+    ap log (sym (power_at k h)) ∙ eqb-true (log (slice_index powers k)) k (agree_below_at (comes_once powers) (λ n. true) 511 k come_once h)

@@ -1,11 +1,11 @@
 -- Doubling, and so a product by a power of α, keeps sums. Assumes nothing.
-use Rattle.std.specs.Prelude.{◌≡◌, ℕ, zero, suc, ◌+◌, ◌*◌, ◌/◌, ◌%◌, ◌<◌, Bool, T, ◌⊎◌, ◌==◌, bit_xor, refl}
-use Rattle.std.proofs.Common.{sym, ap, ap₂, ◌∙◌, inl, inr, add-zero, zero-mul, one-mul, mod-lt, suc-add, zero-add, arith, eqb→eq, lit<}
+use Rattle.std.specs.Prelude.{◌≡◌, ℕ, zero, suc, ◌+◌, ◌*◌, ◌/◌, ◌%◌, ◌<◌, Bool, true, ◌⊎◌, ◌==◌, bit_xor, refl}
+use Rattle.std.proofs.Common.{sym, ap, ap₂, ◌∙◌, inl, inr, add-zero, zero-mul, one-mul, mod-lt, suc-add, zero-add, arith, lit<}
 use Rattle.std.proofs.Math.Nat.{mod-mod}
+use Rattle.std.proofs.lemmas.Bool.{agree_below, agree_below_at, eqb-true}
 use Rattle.std.proofs.lemmas.Nat.{xor_block, xor_mod, xor_shr, xor_comm, xor_lt}
 use Rattle.std.specs.Int.Bits.{xor_assoc, xor_zero_l}
 use Rattle.arithmetic.specs.Polynomials.{reduced, twice, gathered}
-use Rattle.arithmetic.specs.EachBelow.{below, below_at}
 
 -- ---- sums
 
@@ -40,9 +40,9 @@ split a = bit_xor (a % 256 * 2) (a / 256 % 2 * 17)
 splits : ℕ → Bool
 splits a = twice a == split a
 
-all_split : T (below splits 512)
+all_split : agree_below splits (λ n. true) 512 ≡ true
 unfolding splits twice
-all_split = tt
+all_split = refl
 
 twice_low : (a : ℕ) → twice a ≡ twice (a % 512)
 unfolding twice
@@ -51,7 +51,7 @@ twice_low a = ap (λ n. reduced (n * 2)) (sym (mod-mod a 512))
 pub twice_split : (a : ℕ) → twice a ≡ bit_xor (a % 256 * 2) (a / 256 % 2 * 17)
 unfolding splits
 twice_split a =
-    twice_low a ∙ eqb→eq (twice (a % 512)) (split (a % 512)) (below_at splits 512 all_split (a % 512) (mod-lt a (lit< tt)))
+    twice_low a ∙ eqb-true (twice (a % 512)) (split (a % 512)) (agree_below_at splits (λ n. true) 512 (a % 512) all_split (mod-lt a (lit< tt)))
     ∙ ap₂ (λ m n. bit_xor (m * 2) (n * 17)) low high
   where
     low : a % 512 % 256 ≡ a % 256

@@ -6,6 +6,7 @@ use crate::polynomials::{double, sum};
 use crate::{ALPHA, Arithmetic, ELEMENTS};
 
 /// Works each answer out, and stores nothing.
+// Beside `Tabled` and no twin of it: what both do alike is written once, in polynomials.rt; products and inverses come about another way.
 #[derive(Clone, Copy, Debug)]
 pub struct Shifting;
 
@@ -22,6 +23,7 @@ impl Arithmetic for Shifting {
         let mut moved = a % ELEMENTS;
         let mut rest = b % ELEMENTS;
         let mut total = 0;
+        // The nine bits of b: a count of steps, and no index.
         for bit in 0u16..9 {
             total ^= rest % 2 * moved;
             moved = double(moved);
@@ -34,6 +36,7 @@ impl Arithmetic for Shifting {
     fn inverse(&self, a: u16) -> u16 {
         let mut square = a % ELEMENTS;
         let mut total = 1;
+        // The eight higher bits of 510: a count of steps, and no index.
         for turn in 0u16..8 {
             square = self.product(square, square);
             total = self.product(total, square);

@@ -9,11 +9,12 @@ use crate::tables::tables;
 use crate::{ALPHA, Arithmetic, ELEMENTS, ROUND};
 
 /// α to the power k.
+// That an exponent is at most 511 stands here and at the two below: in a struct it would be taken out at each sum and difference.
 pub(crate) fn power(k: u16) -> u16
     requires { k ≤ 511 }
     ensures value { result ≡ raised polynomials 2 k }
 {
-    tables().powers[k as usize]
+    tables().powers[usize::from(k)]
 }
 
 /// The k with α to the power k equal to a; of 0 it says nothing but that it can be looked up.
@@ -22,7 +23,7 @@ fn logarithm(a: u16) -> u16
     ensures at_most_a_round { result ≤ 511 }
     ensures power_back { 0 < a → raised polynomials 2 result ≡ a }
 {
-    tables().logarithms[a as usize]
+    tables().logarithms[usize::from(a)]
 }
 
 /// A power from 0 to 511 that is the same as the power k.

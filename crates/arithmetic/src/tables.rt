@@ -33,6 +33,8 @@ const POWERS: [u16; 512] = [
 ];
 
 /// Entry a is the k below 511 at which the power is a; of 0, which is no power, 511.
+// For 0 a number and no Option, since an Option would be asked in each product: with 511 the sum of two entries, less a round,
+// is always a place of POWERS. The two tables have one shape alone: POWERS answers by exponent, this one by element.
 const LOGARITHMS: [u16; 512] = [
     511, 0, 1, 130, 2, 260, 131, 290, 3, 420, 261, 235, 132, 213, 291, 390, 4, 9, 421, 19, 262, 69,
     236, 343, 133, 332, 214, 39, 292, 365, 391, 377, 5, 507, 10, 503, 422, 325, 20, 495, 263, 63,

@@ -1,22 +1,19 @@
 -- Laws of bits, of the numbers that they make, and of packing and unpacking, over any size.
-use Rattle.std.proofs.Common.{◌≡◌, ℕ, zero, suc, ◌+◌, ◌-◌, ◌*◌, ◌/◌, ◌%◌, ◌^◌, ◌<◌, ◌≤◌, List, [], ◌∷◌, ◌++◌, reverse, length, get_or, take, drop, sym, refl, ap, ◌∙◌, inl, inr, zero-le, mod-eq_of_lt, mul_assoc, mul-zero, mul-suc, div-one, arith, length-take}
+use Rattle.std.proofs.Common.{◌≡◌, ℕ, zero, suc, ◌+◌, ◌-◌, ◌*◌, ◌/◌, ◌%◌, ◌^◌, ◌<◌, ◌≤◌, List, [], ◌∷◌, ◌++◌, reverse, length, get_or, take, drop, sym, refl, ap, ◌∙◌, subst, inl, inr, zero-le, mod-eq_of_lt, mul_assoc, mul-zero, mul-suc, div-one, arith, length-take}
 use native.Mathlib.Nat.{pow-le-pow_right, pow-succ', mod-one, sub-zero}
 use Rattle.std.proofs.lemmas.Nat.{mod-pow-add, shr-shr, pow_pos}
 use Rattle.std.proofs.lemmas.List.{length-append, length-take-le, length-drop, take-append-drop, take-append-le, drop-append-le, take_at, drop_at, drop_all, drop-drop, drop_more, get_or-drop, get_or_past, get_or-reverse, length-reverse, nil_from_length}
 use Rattle.std.proofs.lemmas.Bool.{cases_lt}
+use Rattle.std.proofs.Math.Seq.{take-append-add, drop-append-add}
 use Rattle.blocks.specs.Bits.{bits, number, packed, unpacked}
 
 -- lists, past a front of a known length
 
 pub take_past : (p q : List ℕ) (n m : ℕ) → length p ≡ n → take (n + m) (p ++ q) ≡ p ++ take m q
-take_past [] q n m h = let e : n + m ≡ m = omega arith in rw e
-take_past (x ∷ p) q zero m h = absurd (omega arith)
-take_past (x ∷ p) q (suc n) m h = let e : suc n + m ≡ suc (n + m) = omega arith in rw e (ap (λ l. x ∷ l) (take_past p q n m (omega arith)))
+take_past p q n m h = subst (λ k. take (k + m) (p ++ q) ≡ p ++ take m q) h (take-append-add p q m)
 
 pub drop_past : (p q : List ℕ) (n m : ℕ) → length p ≡ n → drop (n + m) (p ++ q) ≡ drop m q
-drop_past p q n m h = sym (drop-drop m n (p ++ q)) ∙ ap (drop m) (drop_at p q n h)
-
--- the bits of a number
+drop_past p q n m h = subst (λ k. drop (k + m) (p ++ q) ≡ drop m q) h (drop-append-add p q m)
 
 pub length_bits : (n x : ℕ) → length (bits n x) ≡ n
 unfolding bits

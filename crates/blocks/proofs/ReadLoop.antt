@@ -14,13 +14,6 @@ pub record ReadSoFar {A : Type 0} (number : A → ℕ) (first ahead : Ahead) (k 
   pub ten : length read ≡ 10
   pub whole : after_all (take k (map number read)) (reading ahead k (drop k bs)) ≡ reading first 0 bs
 
-pub read_none : {A : Type 0} (number : A → ℕ) (first : Ahead) (read : List A) (bs : List ℕ) → length read ≡ 10 → ReadSoFar number first first 0 read bs
-read_none number first read bs h = record { ten = h; whole = go (reading first 0 bs) }
-  where
-    go : (r : Result (List ℕ) BlockFault) → after_all [] r ≡ r
-    go (Ok ds) = refl
-    go (Err e) = refl
-
 reading_more : (ahead : Ahead) (k next : ℕ) (bs : List ℕ) → k < length bs → next ≡ get_or bs (k + 1) 0 → reading ahead k (drop k bs) ≡ onward (stepped ahead k (get_or bs k 0) next) (λ after. reading after (k + 1) (drop (k + 1) bs))
 unfolding reading
 reading_more ahead k next bs h e =

@@ -10,7 +10,9 @@ use crate::ahead::Ahead;
 use crate::character::{Character, Control, parse};
 use crate::faults::BlockFault;
 
-/// Three bits in the other order; `reverse_bits` turns eight, and five would have to be dropped again.
+/// Three bits in the other order.
+// By arithmetic: `reverse_bits` turns eight, and five would have to be dropped again; the table of lines would be a second thing to
+// prove, for a control alone.
 fn turn(three: u8) -> u8
     ensures { result ≡ turned three }
 {
@@ -18,6 +20,7 @@ fn turn(three: u8) -> u8
 }
 
 /// The pointer from octet `k` on, of which `later` is the one from the next octet on.
+// Position and whether another follows, in five bits as the payload has them: apart they would only be put together again.
 fn lead(k: u8, c: Character, later: Option<u8>) -> Option<u8>
     requires { k < 16 }
     ensures pointer { result ≡ led k (number_of c) later }
@@ -103,12 +106,11 @@ fn preceding(characters: &[Character; 10], k: usize) -> Character
 }
 
 /// Writes the block of ten characters: its payload from the last octet on, and then its header.
-// No `&mut [u8; 11]`: a refused `try_from` of the caller's buffer says nothing of it, and `write_block` wasn't proved.
-fn fill(characters: &[Character; 10], block: &mut [u8])
-    requires { length block.old ≡ 11 }
+fn fill(characters: &[Character; 10], block: &mut [u8; 11])
     ensures { Encodes block.new (map number_of characters.now) }
 {
     let mut pointer = None;
+    // By number: `k` is the position that a pointer names, so a zip with the octets and the characters before would count it as well.
     for (k, c) in characters.iter().enumerate().rev() {
         pointer = lead(k as u8, *c, pointer);
         block[k + 1] = octet(preceding(characters, k), pointer, *c);
@@ -126,6 +128,7 @@ pub fn encode(characters: &[Character; 10]) -> [u8; 11]
 }
 
 /// Writes the block of ten characters. A refusal leaves the block as it was.
+// Over numbers, as callers have them and the refusal names them; `encode` goes by values.
 pub fn write_block(characters: &[u16], block: &mut [u8]) -> Result<(), BlockFault>
     ensures block_they_make_or_refused { MatchResult result (λ _. Encodes block.new characters.now) (λ e. WriteRefused characters.now block.old (block_refusal e)) }
     ensures refusal_writes_nothing { IfErr result (λ e. block.new ≡ block.old) }
@@ -133,9 +136,9 @@ pub fn write_block(characters: &[u16], block: &mut [u8]) -> Result<(), BlockFaul
     let Ok(numbers) = <&[u16; 10]>::try_from(characters) else {
         return Err(BlockFault::InputLength);
     };
-    if block.len() != 11 {
+    let Some(block) = block.as_mut_array() else {
         return Err(BlockFault::OutputLength);
-    }
+    };
     let ten = parse(numbers)?;
     fill(&ten, block);
     Ok(())
@@ -189,6 +192,8 @@ fn read_payload<R: ReadAs>(
         (λ fault. reading first 0 payload.now ≡ Err fault) }
 {
     let mut ahead = first;
+    // By number: `k` is the octet that a pointer or a fault names. A zip with the octets that follow and the places of `ten` would
+    // count it as well, and of what is written under an adapter of `iter_mut` a proof knows nothing.
     for (k, octet) in payload.iter().enumerate() {
         let next = payload.get(k + 1).copied().unwrap_or(0);
         let (c, after) = step(ahead, k, *octet, next)?;
@@ -219,6 +224,7 @@ pub fn decode(block: &[u8; 11]) -> Result<[Character; 10], BlockFault>
 }
 
 /// Writes the ten characters of a block. A refusal leaves the characters as they were.
+// Over numbers, as callers have them; `decode` goes by values.
 pub fn read_block(block: &[u8], characters: &mut [u16]) -> Result<(), BlockFault>
     ensures encoded_ten_or_refused { MatchResult result (λ _. Encodes block.now characters.new) (λ e. ReadRefused block.now characters.old (block_refusal e)) }
     ensures no_other_ten_make_it { OnOk result ((others : List ℕ) → Encodes block.now others → others ≡ characters.new) }
@@ -227,11 +233,11 @@ pub fn read_block(block: &[u8], characters: &mut [u16]) -> Result<(), BlockFault
     let Ok(block) = <&[u8; 11]>::try_from(block) else {
         return Err(BlockFault::InputLength);
     };
-    if characters.len() != 10 {
+    let Some(characters) = characters.as_mut_array() else {
         return Err(BlockFault::OutputLength);
-    }
+    };
     let mut ten = [0u16; 10];
     read(block, &mut ten)?;
-    characters.copy_from_slice(&ten);
+    *characters = ten;
     Ok(())
 }

@@ -93,6 +93,8 @@ pub fn parse<const N: usize>(numbers: &[u16; N]) -> Result<[Character; N], Block
         (λ fault. NamesNoCharacter numbers.now fault) }
 {
     let mut characters = [Character::Data(0); N];
+    // By number: `place` is what the fault names. `array::try_from_fn` would count it as well, doesn't promise that the fault it
+    // answers is the first, and asks for a bound on N.
     for (place, number) in numbers.iter().enumerate() {
         let Ok(c) = Character::try_from(*number) else {
             return Err(BlockFault::NoCharacter { place });
@@ -103,6 +105,8 @@ pub fn parse<const N: usize>(numbers: &[u16; N]) -> Result<[Character; N], Block
 }
 
 /// The place of the first number that is no character.
+// Over numbers: it answers for callers which of theirs would be refused. The first number that is no line symbol is told likewise in
+// codec: one function for both would need a trait for what each clause says. A place for the caller, so no error of a Result.
 pub fn first_no_character(numbers: &[u16]) -> Option<usize>
     ensures first_place_of_no_character { MatchOption result (Characters numbers.now) (λ place. FirstNoCharacter numbers.now place) }
 {
@@ -141,6 +145,7 @@ impl fmt::Display for Character {
     }
 }
 
+// By hand: `thiserror` would print the same, without a contract for what is printed.
 impl fmt::Display for NoControl {
     ghost use Rattle.std.specs.Prelude.{Some, codes, decimal, ◌++◌};
 

@@ -57,6 +57,7 @@ impl Fault for CycleFault {
     }
 }
 
+// By hand: `thiserror` would print the same, without a contract for what is printed.
 impl fmt::Display for BlockFault {
     ghost use Rattle.std.specs.Prelude.{Some};
     ghost use Rattle.blocks.specs.Texts.{block_fault_text};

@@ -56,8 +56,9 @@ unfolding state_after moved
 next_state_parts Master = (refl, refl)
 next_state_parts Slave = (refl, refl)
 
-pub next_state_right : (role : Role) (s : ℕ) → s < 32768 → next_state role s ≡ state_after role s 9
-next_state_right role = agree (next_state_linear role) (state_after_linear role 9) (next_state_parts role)
+pub next_state_right : (role : Role) (s fed : ℕ) → s < 32768 → fed ≡ fed_after role s
+    → bit_xor (bit_and s 63 * 512 % 65536) fed ≡ state_after role s 9
+next_state_right role s fed bound e = rw e (agree (next_state_linear role) (state_after_linear role 9) (next_state_parts role) s bound)
 
 -- ---- the mask
 

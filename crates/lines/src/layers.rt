@@ -29,6 +29,7 @@ impl<L: LineCode> LineCode for Turned<L> {
 }
 
 /// Exchanges the two symbols of the code below.
+// Beside `Turned` and no twin of it: what each does to a pair is all that it is; one type for both would need a field for which.
 #[derive(Clone, Copy, Debug)]
 pub struct Exchanged<L>(pub L);
 

@@ -23,6 +23,8 @@ pub trait LineCode {
 
     ghost distinct: { (s : Self) (v w : ℕ) → v < 8 → w < 8 → pair s v ≡ pair s w → v ≡ w };
 
+    // `write` and `read` are the same over numbers, for callers who have line symbols as numbers; no line code writes them again.
+
     /// Answers the pair of a word; a larger word counts modulo 8.
     final fn write(&self, word: u8) -> (i8, i8)
         ensures pair_of_the_word { result ≡ pair self.now (word % 8) }

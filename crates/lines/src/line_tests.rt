@@ -12,6 +12,7 @@ use crate::symbol::{NoSymbol, Symbol};
 use std::fmt::Debug;
 use std::test::Fail;
 
+// The pairs of each code and layer, written out by hand: worked out from one another they would test nothing but that.
 const ORDERED: [(i8, i8); 8] = [
     (-1, -1),
     (-1, 0),

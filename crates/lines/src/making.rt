@@ -21,6 +21,7 @@ impl Fault for MakingFault {
     }
 }
 
+// By hand: `thiserror` would print the same, without a contract for what is printed.
 impl fmt::Display for MakingFault {
     ghost use Rattle.std.specs.Prelude.{Some, codes};
 

@@ -10,6 +10,7 @@ use crate::symbol::Symbol;
 const TWO_ZEROS: u8 = 4;
 
 /// The pair with this number among the nine, counted from (-1, -1), second symbol fastest.
+// A number, since the code is asked for by division and remainder.
 fn pair_of(number: u8) -> (Symbol, Symbol)
     requires one_of_nine { number < 9 }
     ensures first_by_division { result.0.value ≡ pos (number / 3) -ℤ pos 1 }

@@ -18,6 +18,8 @@ const PAIRS: [(Symbol, Symbol); 8] = [
 ];
 
 /// Writes the pairs of a table around the ring.
+// Beside `Ordered` and no twin of it: that one counts its pairs out, this one has them in a table; two formats
+// are asked for, in these two forms.
 #[derive(Clone, Copy, Debug)]
 pub struct Ring;
 
@@ -31,7 +33,7 @@ impl LineCode for Ring {
     ghost distinct = { Prim.search rules };
 
     fn write_symbols(&self, word: u8) -> (Symbol, Symbol) {
-        PAIRS[(word % 8) as usize]
+        PAIRS[usize::from(word % 8)]
     }
 
     fn read_symbols(&self, first: Symbol, second: Symbol) -> Option<u8> {

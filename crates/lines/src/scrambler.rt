@@ -12,19 +12,22 @@ use crate::role::Role;
 use crate::seed::Seed;
 use crate::stream::Stream;
 
-// Three bits in the other order. A table, since `reverse_bits` of sixteen took longer.
+// Three bits in the other order. A table, since `reverse_bits` of sixteen took longer; the `turn` of blocks counts them out, which
+// is enough for a control and would be done three times for each mask here.
 const TURNED: [u16; 8] = [0, 4, 2, 6, 1, 5, 3, 7];
 
 /// The stream of one role's masks, from a state of 1 to 32,767.
 #[derive(Clone, Copy)]
 pub struct Scrambler {
     role: Role,
+    // A number and no `Seed`: each mask shifts it, and the clauses speak of the number.
     state: u16,
     ghost ok: { (0 < state) × (state < 32768) },
 }
 
 impl Scrambler {
     /// Starts at a seed of 1 to 32,767.
+    // Beside `from_seed`: it takes a caller's number and refuses those that are no seed.
     pub fn new(role: Role, seed: u16) -> Result<Scrambler, MakingFault>
         ensures starts_at_the_seed { elim result [ Ok s ↦ (is_state seed ≡ true) × (s.role ≡ role) × (s.state ≡ seed) | Err fault ↦ (is_state seed ≡ false) × (making_refusal fault ≡ refusal 1 Layer.Making 0) ] }
     {
@@ -64,9 +67,9 @@ fn reversed(drawn: u16) -> u16
     requires { drawn < 512 }
     ensures other_order { result ≡ number (reverse (bits 9 drawn)) }
 {
-    let first = TURNED[(drawn & 7) as usize];
-    let second = TURNED[((drawn >> 3) & 7) as usize];
-    let third = TURNED[(drawn >> 6) as usize];
+    let first = TURNED[usize::from(drawn & 7)];
+    let second = TURNED[usize::from((drawn >> 3) & 7)];
+    let third = TURNED[usize::from(drawn >> 6)];
     (first << 6) ^ (second << 3) ^ third
 }
 

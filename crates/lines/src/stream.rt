@@ -4,6 +4,7 @@ ghost use Rattle.lines.specs.Scramblers.{silent_mask};
 ghost use Rattle.std.proofs.Common.{rules};
 
 /// An unending sequence of masks, worked out from what the stream holds now.
+// A mask is a number of nine bits: a type for it would be taken out again at each exclusive-or.
 pub trait Stream {
     // The masks still to come: mask 0 is the next one.
     ghost mask: { Self → ℕ → ℕ };

@@ -5,7 +5,8 @@ ghost use Rattle.lines.specs.LineCodes.{is_line_symbol};
 use std::fmt;
 use std::ops::Neg;
 
-/// A line symbol: the number -1, 0 or 1. No enum, since a tag is not the number: a frame took a tenth longer to send.
+/// A line symbol: the number -1, 0 or 1.
+// An enum was tried: its tag is not the number, and a frame took a tenth longer to send.
 #[derive(Clone, Copy, PartialEq, Eq, Debug)]
 pub struct Symbol {
     value: i8,
@@ -81,6 +82,7 @@ impl fmt::Display for Symbol {
     }
 }
 
+// By hand: `thiserror` would print the same, without a contract for what is printed.
 impl fmt::Display for NoSymbol {
     ghost use Rattle.std.specs.Prelude.{Some, codes, ◌++◌};
     ghost use Rattle.std.specs.Fmt.{signed_decimal};

@@ -19,6 +19,7 @@ pub enum Layer {
 /// What a caller is told: the refusal's number, the layer and the place within it.
 #[derive(Clone, Copy, PartialEq, Eq, Debug)]
 pub struct Refusal {
+    // A number, since callers and recordings know a refusal by it. Within the layers faults are enums; this is what is told of them.
     pub number: u8,
     pub layer: Layer,
     pub place: usize,

@@ -13,7 +13,7 @@ loop-k-init c =
     record {
       numbered = ap (λ i. i.iter.count) it ∙ ap (λ i. i.count) c.rev-k-items.ensures.source ∙ c.enumerate.ensures.count;
       front = ([], append-nil _ ∙ all);
-      filled = filled_none _ c.args.block.now _ (length-map c.args.characters.now number_of ∙ ap length (sym all)) (ap length all ∙ c.told-characters) c.requires;
+      filled = filled_none _ c.args.block.now _ (length-map c.args.characters.now number_of ∙ ap length (sym all)) (ap length all ∙ c.told-characters) c.told-block;
     }
 
 pub octet-requires : goal.octet-requires

@@ -3,9 +3,6 @@ use Rattle.std.proofs.lemmas.Result.{err_from_is_err_and}
 use Rattle.blocks.proofs.ReadLoop as loops
 use Rattle.blocks.proofs.block.read_payload.Goals as goal
 
-pub loop-k-init : goal.loop-k-init
-loop-k-init g c = loops.read_none g.R.ReadAs.number c.args.first c.args.ten.now c.args.payload.now c.told-ten
-
 pub returns-in_err-c : goal.returns-in_err-c
 returns-in_err-c g c =
     let p = err_from_is_err_and c.from_residual.result c.from_residual.ensures.1 in

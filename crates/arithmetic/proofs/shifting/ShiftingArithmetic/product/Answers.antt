@@ -1,16 +1,10 @@
 use Rattle.std.proofs.Common.{◌+◌, ◌-◌, ◌*◌, ◌/◌, ◌%◌, sym, ap, ◌∙◌, arith}
-use lib.Bits.{bit_xor, xor_zero_l}
+use lib.Bits.{bit_xor}
 use Rattle.arithmetic.specs.Polynomials.{gathered, product}
-use Rattle.arithmetic.specs.Linear.{chosen_below, twice_below}
+use Rattle.arithmetic.specs.Linear.{twice_below}
 use Rattle.arithmetic.specs.Inverses.{product_bound}
 use Rattle.arithmetic.proofs.Steps.{gathered_step, gathered_end}
 use Rattle.arithmetic.proofs.shifting.ShiftingArithmetic.product.Goals as goal
-
-pub overflow_mul-total : goal.overflow_mul-total
-overflow_mul-total c = record { fits = omega (arith, chosen_below c.loop-bit.rest c.loop-bit.moved c.loop-bit.invariant.0) }
-
-pub loop-bit-init : goal.loop-bit-init
-loop-bit-init c = (omega arith, xor_zero_l _)
 
 pub loop-bit-preserved : goal.loop-bit-preserved
 loop-bit-preserved c =

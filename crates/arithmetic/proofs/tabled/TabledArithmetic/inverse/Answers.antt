@@ -1,10 +1,10 @@
-use Rattle.std.proofs.Common.{◌%◌, ◌<◌, sym, ◌∙◌, arith, lit<}
+use Rattle.std.proofs.Common.{◌%◌, ◌<◌, sym, ◌∙◌, arith}
 use Rattle.arithmetic.specs.Inverses.{inverse_nothing, inverse_bound}
 use Rattle.arithmetic.proofs.Lookup.{inverse_by_logarithm}
 use Rattle.arithmetic.proofs.tabled.TabledArithmetic.inverse.Goals as goal
 
-pub returns-in-0 : goal.returns-in-0
-returns-in-0 c = record { value = sym (inverse_nothing c.args.a c.in-0.is); below = lit< tt }
+pub returns-in-0-clause-value : goal.returns-in-0-clause-value
+returns-in-0-clause-value c = sym (inverse_nothing c.args.a c.in-0.is)
 
 pub returns-in_default : goal.returns-in_default
 returns-in_default c =

@@ -1,13 +1,10 @@
-use Rattle.std.proofs.Common.{◌%◌, ◌<◌, ◌∙◌, inl, inr, arith, lit<}
+use Rattle.std.proofs.Common.{◌%◌, ◌<◌, ◌∙◌, inl, inr, arith}
 use Rattle.arithmetic.specs.Inverses.{product_bound}
 use Rattle.arithmetic.proofs.Lookup.{by_logarithms, none_left, none_right}
 use Rattle.arithmetic.proofs.tabled.TabledArithmetic.product.Goals as goal
 
-pub returns-then-y-eq0 : goal.returns-then-y-eq0
-returns-then-y-eq0 c = record {
-  value = elim c.if-y-eq0.either [ inl e ↦ none_left c.args.a c.args.b e | inr p ↦ none_right c.args.a c.args.b p.1 ];
-  below = lit< tt;
-}
+pub returns-then-y-eq0-clause-value : goal.returns-then-y-eq0-clause-value
+returns-then-y-eq0-clause-value c = elim c.if-y-eq0.either [ inl e ↦ none_left c.args.a c.args.b e | inr p ↦ none_right c.args.a c.args.b p.1 ]
 
 pub returns-else-y-eq0 : goal.returns-else-y-eq0
 returns-else-y-eq0 c =

@@ -9,14 +9,14 @@ use Rattle.lines.proofs.scrambler.ScramblerStream.next.Goals as goal
 pub invariant_of-self : goal.invariant_of-self
 invariant_of-self c =
     let now = c.args.self.now in
-    let left = ap (bit_xor (bit_and now.state 63 * 512 % 65536)) c.fed_back-fed.ensures.nine_moves_on ∙ next_state_right now.role now.state now.ok.1 in
+    let left = next_state_right now.role now.state _ now.ok.1 c.fed_back-fed.ensures.nine_moves_on in
     record { ok = subst (λ (s : ℕ). (0 < s) × (s < 32768)) (sym left) (state_after_state now.role now.state 9 now.ok.0 now.ok.1) }
 
 pub returns : goal.returns
 returns c =
     let now = c.args.self.now in
     let fed = c.fed_back-fed.ensures.nine_moves_on in
-    let left = ap (bit_xor (bit_and now.state 63 * 512 % 65536)) fed ∙ next_state_right now.role now.state now.ok.1 in
+    let left = next_state_right now.role now.state _ now.ok.1 fed in
     record {
       first_mask =
           c.reversed.ensures.other_order
