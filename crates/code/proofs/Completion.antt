@@ -1,5 +1,5 @@
 -- Completed words, and words with the values of a short polynomial. Assumes nothing.
-use Rattle.std.proofs.Common.{◌≡◌, ℕ, zero, suc, ◌+◌, ◌-◌, ◌<◌, ◌≤◌, List, [], ◌∷◌, ◌++◌, length, get_or, take, drop, replicate, sym, refl, ap, ◌∙◌, arith, length-append, length-drop}
+use Rattle.std.proofs.Common.{◌≡◌, ℕ, zero, suc, ◌+◌, ◌-◌, ◌<◌, ◌≤◌, List, [], ◌∷◌, ◌++◌, length, get_or, take, drop, replicate, sym, ap, ◌∙◌, subst, arith, length-append, length-drop}
 use lib.ListN.{length-replicate}
 use borrow.Rule.Slice.PartMut.{put_mid}
 use Rattle.std.proofs.lemmas.List.{length-take-le, take_at, drop_all, append-nil, ext_get_or}
@@ -11,17 +11,12 @@ use Rattle.code.specs.Outcomes.{Completed}
 use Rattle.code.proofs.Distances.{distance_most, same_front}
 use Rattle.code.proofs.Unique.{unique}
 use Rattle.code.proofs.Values.{syndrome_value, value_zeros}
-use Rattle.code.proofs.Registers.{divided_whole, zeros_small}
+use Rattle.code.proofs.Registers.{divided_whole, zeros_zero, zeros_small}
 
-pub put_end : (a : ℕ) (xs ys zs : List ℕ) → a ≤ length xs → ys ≡ zs → put_mid a (length xs - a) xs ys ≡ take a xs ++ zs
-put_end a xs ys zs h e =
-    let none : drop (length xs - a) (drop a xs) ≡ [] = drop_all (length xs - a) (drop a xs) (simp length-drop (omega arith)) in
+put_end : (a n : ℕ) (xs ys zs : List ℕ) → length xs ≤ a + n → ys ≡ zs → put_mid a n xs ys ≡ take a xs ++ zs
+put_end a n xs ys zs h e =
+    let none : drop n (drop a xs) ≡ [] = drop_all n (drop a xs) (simp length-drop (omega arith)) in
     ap (λ r. take a xs ++ (ys ++ r)) none ∙ ap (λ r. take a xs ++ r) (append-nil ys) ∙ ap (λ r. take a xs ++ r) e
-
-pub zeros_zero : (n k : ℕ) → ◌≡◌ {A = ℕ} (get_or (replicate n 0) k 0) 0
-zeros_zero zero k = refl
-zeros_zero (suc n) zero = refl
-zeros_zero (suc n) (suc k) = zeros_zero n k
 
 take_small : (n : ℕ) (w : List ℕ) → ((i : ℕ) → get_or w i 0 < elements) → (i : ℕ) → get_or (take n w) i 0 < elements
 take_small zero w s i = omega arith
@@ -29,7 +24,7 @@ take_small (suc n) [] s i = omega arith
 take_small (suc n) (a ∷ w) s zero = s 0
 take_small (suc n) (a ∷ w) s (suc i) = take_small n w (λ k. s (suc k)) i
 
-append_small : (u v : List ℕ) → ((i : ℕ) → get_or u i 0 < elements) → ((i : ℕ) → get_or v i 0 < elements) → (i : ℕ) → get_or (u ++ v) i 0 < elements
+pub append_small : (u v : List ℕ) → ((i : ℕ) → get_or u i 0 < elements) → ((i : ℕ) → get_or v i 0 < elements) → (i : ℕ) → get_or (u ++ v) i 0 < elements
 append_small [] v s t i = t i
 append_small (a ∷ u) v s t zero = s 0
 append_small (a ∷ u) v s t (suc i) = append_small u v (λ k. s (suc k)) t i
@@ -47,14 +42,15 @@ module _ {F : Operations} (laws : Lawful F) where
     checks = λ j h. syndrome_value laws (message ++ register) j ∙ divided_whole laws parity message register d j h;
   }
 
-  pub completed : (w register : List ℕ) → Word w → length register ≡ parity → ((i : ℕ) → get_or register i 0 < elements) → Divided F parity (take message_length w) register
-      → Completed F w (take message_length w ++ register)
-  completed w register hw lr sr d =
+  -- the register, copied over the end of the word
+  pub completed : (w register copy : List ℕ) → Word w → length register ≡ parity → ((i : ℕ) → get_or register i 0 < elements) → Divided F parity (take message_length w) register
+      → copy ≡ register → Completed F w (put_mid message_length parity w copy)
+  completed w register copy hw lr sr d copied =
       let front = take message_length w in
       let lt : length front ≡ message_length = length-take-le message_length w (omega (arith, hw.full)) in
       let code : Codeword F (front ++ register) = whole_codeword front register (omega arith) (take_small message_length w hw.small) sr d in
       let kept : take message_length (front ++ register) ≡ front = take_at front register message_length lt in
-      record {
+      let done : Completed F w (front ++ register) = record {
         word = hw;
         message = kept;
         codeword = code;
@@ -62,7 +58,8 @@ module _ {F : Operations} (laws : Lawful F) where
             let l : length v ≡ length (front ++ register) = hv.word.full ∙ sym code.word.full in
             let far : distance v (front ++ register) ≤ length v - message_length = same_front v (front ++ register) message_length l (omega (arith, hv.word.full)) (e ∙ sym kept) in
             uniquely v (front ++ register) hv code (omega (arith, hv.word.full));
-      }
+      } in
+      subst (Completed F w) (sym (put_end message_length parity w copy register (omega (arith, hw.full)) copied)) done
 
   -- a word and a short polynomial with the same values at the first powers of α
   module _ (w p : List ℕ) (hw : Word w) (lp : length p ≡ parity) (pb : (k : ℕ) → get_or p k 0 < elements)

@@ -1,10 +1,10 @@
 -- An array that is filled from the front. Assumes nothing.
-use Rattle.std.proofs.Common.{◌≡◌, Iter, ℕ, zero, suc, ◌+◌, ◌<◌, drop, length-drop, ◌≤◌, ◌≢◌, List, [], ◌∷◌, fold, max, length, get_or, set, sym, ap, ◌∙◌, subst, arith, get_or-set_same, get_or-set_other, below_more}
+use Rattle.std.proofs.Common.{◌≡◌, Iter, ℕ, zero, suc, ◌+◌, ◌<◌, drop, length-drop, ◌≤◌, ◌≢◌, List, [], ◌∷◌, ◌++◌, fold, max, length, get_or, set, sym, ap, ◌∙◌, subst, arith, get_or-set_same, get_or-set_other, below_more}
 use mathlib.Core.Logic.{◌⊎◌, inl, inr}
 use native.Mathlib.Decide.{ℕ_discrete}
 use denote.Param.Members.{Mut}
 use Rattle.std.specs.Fn.{Called}
-use Rattle.std.proofs.lemmas.List.{drop_more}
+use Rattle.std.proofs.lemmas.List.{drop_more, length_push}
 use Rattle.std.specs.Array.{IsFromFnResultFrom}
 
 -- one more element
@@ -41,17 +41,20 @@ pub largest_below : (xs : List ℕ) (m n : ℕ) → fold (λ most x. max x most)
 largest_below xs m n h = (all_below_largest xs m n h).1
 
 -- what an iterator has left begins with the element at its place
-pub left_more : {X : Type 0} (xs rest : List X) (n : ℕ) (x d : X) → x ∷ rest ≡ drop n xs → (n < length xs) × (x ≡ get_or xs n d) × (rest ≡ drop (n + 1) xs)
-left_more xs rest n x d e =
-    let some : n < length xs = omega (arith, ap length e, length-drop n xs) in
-    let both : x ∷ rest ≡ get_or xs n d ∷ drop (n + 1) xs = e ∙ drop_more xs n d some in
+pub left_more : {X : Type 0} {left rest : List X} {x : X} (xs : List X) (n : ℕ) (d : X) → left ≡ x ∷ rest → left ≡ drop n xs → (n < length xs) × (x ≡ get_or xs n d) × (rest ≡ drop (n + 1) xs)
+left_more xs n d s e =
+    let some : n < length xs = omega (arith, ap length (sym s ∙ e), length-drop n xs) in
+    let both = sym s ∙ e ∙ drop_more xs n d some in
     (some, ap (λ q. get_or q 0 d) both, ap (drop 1) both)
 
--- two iterators side by side over lists of m elements end after m steps
-pub zip_done : {X Y : Type 0} (xs : List X) (ys : List Y) (a : Iter X) (b : Iter Y) (i m : ℕ)
+pub left_next : {X Y : Type 0} {left rest : List X} {x : X} (xs : List X) (seen : List Y) (y : Y) → left ≡ x ∷ rest → left ≡ drop (length seen) xs → rest ≡ drop (length (seen ++ (y ∷ []))) xs
+left_next {x} xs seen y s e = (left_more xs (length seen) x s e).2 ∙ ap (λ n. drop n xs) (sym (length_push seen y))
+
+-- two iterators side by side over lists of one length end where the lists do
+pub zip_done : {X Y : Type 0} (xs : List X) (ys : List Y) (a : Iter X) (b : Iter Y) (i : ℕ)
     → ((x : Iter X) × ((length a.rest.now ≡ 0) × (x ≡ a))) ⊎ ((y : Iter Y) × ((length b.rest.now ≡ 0) × (y ≡ b)))
-    → a.rest.now ≡ drop i xs → b.rest.now ≡ drop i ys → length xs ≡ m → length ys ≡ m → i ≤ m → i ≡ m
-zip_done xs ys a b i m ended ea eb lx ly h = elim ended [
+    → a.rest.now ≡ drop i xs → b.rest.now ≡ drop i ys → length ys ≡ length xs → i ≤ length xs → i ≡ length xs
+zip_done xs ys a b i ended ea eb l h = elim ended [
   | inl e ↦ omega (arith, e.1.0, ap length ea, length-drop i xs)
   | inr e ↦ omega (arith, e.1.0, ap length eb, length-drop i ys)
 ]

@@ -1,12 +1,13 @@
 -- Places that pass a test, and values of a polynomial by its terms. Assumes nothing.
-use Rattle.std.proofs.Common.{◌≡◌, ℕ, zero, suc, ◌+◌, ◌<◌, ◌≤◌, Bool, true, false, cond, List, [], ◌∷◌, ◌++◌, length, get_or, filter, fold, sym, refl, ap, ◌∙◌, add-zero, add-one, arith}
+use Rattle.std.proofs.Common.{◌≡◌, ℕ, zero, suc, ◌+◌, ◌<◌, ◌≤◌, Bool, true, false, cond, List, [], ◌∷◌, ◌++◌, length, get_or, drop, filter, fold, sym, refl, ap, ◌∙◌, add-zero, add-one, arith, eq-eqb}
 use native.Mathlib.Decide.{ℕ_discrete}
 use Rattle.arithmetic.specs.Laws.{Operations, Lawful, power, elements}
 use Rattle.code.specs.Words.{below}
 use Rattle.code.specs.Polynomials.{eval, eval_monic, total}
-use Rattle.code.specs.Locating.{Terms}
+use Rattle.code.specs.Locating.{Terms, zero_at}
 use Rattle.code.proofs.Basic.{plus_zero_left, plus_zero_right, times_one_left, times_zero_right, times_left_comm, power_times}
 use Rattle.code.proofs.Quotients.{eval_monic_value}
+use Rattle.code.proofs.Filled.{left_more}
 use Rattle.code.proofs.Values.{eval_low}
 
 -- a place that passes is among those kept
@@ -42,6 +43,13 @@ kept_fewer test n (suc m) h = elim (ℕ_discrete n (suc m)) [
 -- a place that is kept has room among at most m
 pub kept_room : (test : ℕ → Bool) (i n m : ℕ) → i < n → test i ≡ true → length (filter test (below n)) ≤ m → length (filter test (below i)) < m
 kept_room test i n m h e few = let more = ap length (kept_next test i e) in let fewer = kept_fewer test (i + 1) n (omega arith) in omega arith
+
+-- a zero that an iterator over the values comes to has room among at most m
+pub zero_room : {left rest : List ℕ} {v : ℕ} (values : List ℕ) (i m : ℕ) → left ≡ v ∷ rest → left ≡ drop i values → v ≡ 0 → length (filter (zero_at values) (below (length values))) ≤ m
+    → length (filter (zero_at values) (below i)) < m
+zero_room values i m s e z few =
+    let here = left_more values i 0 s e in
+    kept_room (zero_at values) i (length values) m here.0 (eq-eqb (get_or values i 0) 0 (sym here.1 ∙ z)) few
 
 module _ {F : Operations} (laws : Lawful F) where
   infixl 60 ◌⊕◌

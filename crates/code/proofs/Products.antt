@@ -1,5 +1,7 @@
 -- Monic polynomials as products of x + y. Assumes nothing.
-use Rattle.std.proofs.Common.{◌≡◌, ℕ, ◌+◌, List, [], ◌∷◌, take, sym, ap, ◌∙◌, subst, below_more}
+use Rattle.std.proofs.Common.{◌≡◌, ℕ, ◌+◌, ◌-◌, ◌<◌, List, [], ◌∷◌, ◌++◌, length, get_or, take, drop, set, sym, ap, ◌∙◌, subst, arith, below_more}
+use Rattle.std.proofs.Math.Seq.{drop-length, take-length, take-append_seam, set-append_seam}
+use Rattle.std.proofs.lemmas.List.{drop_more, length-take-le, take-take}
 use Rattle.arithmetic.specs.Laws.{Operations, Lawful}
 use Rattle.std.specs.List.{AllByRecursion}
 use Rattle.std.proofs.ByRecursion.{All-weaker}
@@ -7,6 +9,32 @@ use Rattle.code.specs.Polynomials.{eval_monic, times_linear}
 use Rattle.code.specs.Prepared.{Vanishes}
 use Rattle.code.proofs.Basic.{times_one_right, times_zero_right, times_zero_left, distrib_right, plus_left_comm, times_left_comm}
 use Rattle.code.proofs.Unique.{reduced}
+
+-- a list and a value in the place of what follows it
+last_set : (xs p : List ℕ) (n v : ℕ) → length xs ≡ n → n + 1 ≡ length p → set (xs ++ drop n p) n v ≡ xs ++ (v ∷ [])
+last_set xs p n v l e =
+    let inside : n < length p = omega arith in
+    ap (λ r. set (xs ++ r) n v) (drop_more p n 0 inside ∙ ap (λ r. get_or p n 0 ∷ r) (ap (λ m. drop m p) e ∙ drop-length p))
+    ∙ ap (λ m. set (xs ++ (get_or p n 0 ∷ [])) m v) (sym l)
+    ∙ set-append_seam xs (get_or p n 0) [] v
+
+module _ (F : Operations) where
+  -- the last turn of the product with x + y
+  pub product_end : (y c : ℕ) (xs p : List ℕ) (n v : ℕ) → length xs ≡ n → n + 1 ≡ length p → v ≡ F.plus c y
+      → set (xs ++ drop n p) n v ≡ take n xs ++ times_linear F y c (drop n xs)
+  product_end y c xs p n v l e ev =
+      last_set xs p n v l e ∙ ap (λ z. xs ++ (z ∷ [])) ev
+      ∙ sym (ap (λ m. take m xs ++ times_linear F y c (drop m xs)) (sym l) ∙ ap (λ r. r ++ times_linear F y c (drop (length xs) xs)) (take-length xs) ∙ ap (λ r. xs ++ times_linear F y c r) (drop-length xs))
+
+  -- the first j coefficients of p, and the product with x + y in the first j + 1 places
+  pub next_product : (y : ℕ) (p q : List ℕ) (j : ℕ) → j < length p → length q ≡ length (take (j + 1) p)
+      → q ≡ times_linear F y 0 (take (length (take (j + 1) p) - 1) (take (j + 1) p)) → take (j + 1) (q ++ drop (j + 1) p) ≡ times_linear F y 0 (take j p)
+  next_product y p q j h l e =
+      let long : length (take (j + 1) p) ≡ j + 1 = length-take-le (j + 1) p (omega arith) in
+      let less : length (take (j + 1) p) - 1 ≡ j = omega arith in
+      let seam : j + 1 ≡ length q = omega arith in
+      ap (λ m. take m (q ++ drop (j + 1) p)) seam ∙ take-append_seam q (drop (j + 1) p) ∙ e
+      ∙ ap (λ m. times_linear F y 0 (take m (take (j + 1) p))) less ∙ ap (times_linear F y 0) (take-take j (j + 1) p (omega arith))
 
 module _ {F : Operations} (laws : Lawful F) where
   infixl 60 ◌⊕◌

@@ -40,29 +40,33 @@ module _ {F : Operations} (laws : Lawful F) (s : ℕ → ℕ) (sb : (j : ℕ) �
 
   -- p annuls the first u windows; q annuls one window less than the degree of p, and has the value 1 / scale in the next
   module _ (p q : List ℕ) (u scale : ℕ) (low : length q ≤ u) (annuls : (j : ℕ) → j < u → dot_monic F p s j ≡ 0)
-      (earlier : (j : ℕ) → j + 1 < length p → dot_monic F q s j ≡ 0) (fails : (j : ℕ) → j + 1 ≡ length p → scale ⊗ dot_monic F q s j ≡ 1) where
+      (earlier : (j : ℕ) → j + 1 < length p → dot_monic F q s j ≡ 0) (fails : (j : ℕ) → j + 1 ≡ length p → scale ⊗ dot_monic F q s j ≡ 1)
+      (next : List ℕ) (v k : ℕ) (is_value : v ≡ dot_monic F p s u) (is_factor : k ≡ v ⊗ scale) where
+    -- a window of the sum that the step makes
+    in_window : (a b : List ℕ) (j : ℕ) → length a < length b → next ≡ plus_monic F k a b → dot_monic F next s j ≡ dot_monic F b s j ⊕ dot_monic F p s u ⊗ scale ⊗ dot_monic F a s j
+    in_window a b j h e =
+        ap (λ y. dot_monic F y s j) e ∙ linear laws k a b s j h ∙ ap (λ z. dot_monic F b s j ⊕ z ⊗ dot_monic F a s j) (is_factor ∙ ap (λ z. z ⊗ scale) is_value)
+
     -- the degree stays, and one more window is annulled
-    pub extended : u < length p → (j : ℕ) → j < u + 1 → dot_monic F (plus_monic F (dot_monic F p s u ⊗ scale) (replicate (length p - 1 - u) 0 ++ q) p) s j ≡ 0
-    extended h j l =
-        let e = length p - 1 - u in
-        let k = dot_monic F p s u ⊗ scale in
+    pub extended : u < length p → (e : ℕ) (lift : List ℕ) → e ≡ length p - 1 - u → lift ≡ replicate e 0 ++ q → next ≡ plus_monic F k lift p → (j : ℕ) → j < u + 1 → dot_monic F next s j ≡ 0
+    extended h e lift by raised made j l =
+        let m = dot_monic F p s u ⊗ scale in
         let short : length (replicate e 0 ++ q) < length p = omega (arith, length-append (replicate e 0) q, length-replicate {A = ℕ} e 0) in
-        linear laws k (replicate e 0 ++ q) p s j short
-        ∙ ap (λ z. dot_monic F p s j ⊕ k ⊗ z) (dot_raised e q j)
+        in_window (replicate e 0 ++ q) p j short (made ∙ ap (λ y. plus_monic F k y p) raised)
+        ∙ ap (λ z. dot_monic F p s j ⊕ m ⊗ z) (dot_raised e q j)
         ∙ elim (ℕ_discrete j u) [
-          | yes same ↦ ap (λ n. dot_monic F p s n ⊕ k ⊗ dot_monic F q s (n + e)) same ∙ cancels (dot_monic F p s u) scale (dot_monic F q s (u + e)) (dot_monic_below laws p s sb u) (fails (u + e) (omega arith))
-          | no other ↦ ap (λ z. z ⊕ k ⊗ dot_monic F q s (j + e)) (annuls j (omega arith)) ∙ ap (λ z. 0 ⊕ k ⊗ z) (earlier (j + e) (omega arith)) ∙ vanishes k
+          | yes same ↦ ap (λ n. dot_monic F p s n ⊕ m ⊗ dot_monic F q s (n + e)) same ∙ cancels (dot_monic F p s u) scale (dot_monic F q s (u + e)) (dot_monic_below laws p s sb u) (fails (u + e) (omega arith))
+          | no other ↦ ap (λ z. z ⊕ m ⊗ dot_monic F q s (j + e)) (annuls j (omega arith)) ∙ ap (λ z. 0 ⊕ m ⊗ z) (earlier (j + e) (omega arith)) ∙ vanishes m
         ]
 
     -- the degree grows to u + 1
-    pub grown : length p ≤ u → (j : ℕ) → j < length p → dot_monic F (plus_monic F (dot_monic F p s u ⊗ scale) q (replicate (u + 1 - length p) 0 ++ p)) s j ≡ 0
-    grown h j l =
-        let e = u + 1 - length p in
-        let k = dot_monic F p s u ⊗ scale in
+    pub grown : length p ≤ u → (e : ℕ) (lift : List ℕ) → e ≡ u + 1 - length p → lift ≡ replicate e 0 ++ p → next ≡ plus_monic F k q lift → (j : ℕ) → j < length p → dot_monic F next s j ≡ 0
+    grown h e lift by raised made j l =
+        let m = dot_monic F p s u ⊗ scale in
         let short : length q < length (replicate e 0 ++ p) = omega (arith, length-append (replicate e 0) p, length-replicate {A = ℕ} e 0) in
-        linear laws k q (replicate e 0 ++ p) s j short
-        ∙ ap (λ z. z ⊕ k ⊗ dot_monic F q s j) (dot_raised e p j)
+        in_window q (replicate e 0 ++ p) j short (made ∙ ap (plus_monic F k q) raised)
+        ∙ ap (λ z. z ⊕ m ⊗ dot_monic F q s j) (dot_raised e p j)
         ∙ elim (ℕ_discrete (j + 1) (length p)) [
-          | yes last ↦ (let n : j + e ≡ u = omega arith in ap (λ m. dot_monic F p s m ⊕ k ⊗ dot_monic F q s j) n ∙ cancels (dot_monic F p s u) scale (dot_monic F q s j) (dot_monic_below laws p s sb u) (fails j last))
-          | no other ↦ ap (λ z. z ⊕ k ⊗ dot_monic F q s j) (annuls (j + e) (omega arith)) ∙ ap (λ z. 0 ⊕ k ⊗ z) (earlier j (omega arith)) ∙ vanishes k
+          | yes last ↦ (let n : j + e ≡ u = omega arith in ap (λ i. dot_monic F p s i ⊕ m ⊗ dot_monic F q s j) n ∙ cancels (dot_monic F p s u) scale (dot_monic F q s j) (dot_monic_below laws p s sb u) (fails j last))
+          | no other ↦ ap (λ z. z ⊕ m ⊗ dot_monic F q s j) (annuls (j + e) (omega arith)) ∙ ap (λ z. 0 ⊕ m ⊗ z) (earlier j (omega arith)) ∙ vanishes m
         ]

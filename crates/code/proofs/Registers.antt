@@ -9,10 +9,13 @@ use Rattle.code.specs.Prepared.{Multiples, Divided}
 use Rattle.code.proofs.Basic.{times_zero_left}
 use Rattle.code.proofs.Values.{length_added, value_zeros, value_fed, value_whole, value_append, value_added}
 
+pub zeros_zero : (n k : ℕ) → ◌≡◌ {A = ℕ} (get_or (replicate n 0) k 0) 0
+zeros_zero zero k = refl
+zeros_zero (suc n) zero = refl
+zeros_zero (suc n) (suc k) = zeros_zero n k
+
 pub zeros_small : (n k : ℕ) → get_or (replicate n 0) k 0 < elements
-zeros_small zero k = omega arith
-zeros_small (suc n) zero = omega arith
-zeros_small (suc n) (suc k) = zeros_small n k
+zeros_small n k = omega (arith, zeros_zero n k)
 
 -- the pairs that a list begins with
 pub pair_at : (xs : List ℕ) (n i k : ℕ) → i < n → k < 2 → get_or (get_or (first_chunks 2 n xs) i []) k 0 ≡ get_or xs (2 * i + k) 0

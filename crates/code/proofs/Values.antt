@@ -1,11 +1,12 @@
 -- Values of words and polynomials. Assumes nothing.
-use Rattle.std.proofs.Common.{◌≡◌, ℕ, zero, suc, ◌+◌, ◌-◌, ◌*◌, ◌<◌, List, [], ◌∷◌, ◌++◌, length, get_or, take, drop, set, replicate, sym, refl, ap, ◌∙◌, arith, length-append, length-drop}
+use Rattle.std.proofs.Common.{◌≡◌, ℕ, zero, suc, ◌+◌, ◌-◌, ◌*◌, ◌<◌, ◌≤◌, List, [], ◌∷◌, ◌++◌, length, get_or, take, drop, replicate, sym, refl, ap, ◌∙◌, add-one, arith, length-append, length-drop}
 use Rattle.arithmetic.specs.Laws.{Operations, Lawful, power, elements}
 use Rattle.code.specs.Words.{coefficient, below, sum, syndrome}
 use Rattle.code.specs.Polynomials.{value, eval, eval_monic, added, advanced}
 use Rattle.code.proofs.Basic.{plus_zero_left, plus_zero_right, times_one_right, times_zero_right, times_zero_left, distrib_right, plus_left_comm, times_left_comm, same_of_sum_zero, power_below, power_add, power_power}
 use Rattle.code.proofs.Unique.{reduced}
-use Rattle.std.proofs.lemmas.List.{drop-set, take_more, length-take-le}
+use Rattle.std.proofs.lemmas.List.{drop_more, take_more, length-take-le}
+use Rattle.std.proofs.Math.Seq.{drop-length}
 
 pub length_added : (F : Operations) (p q : List ℕ) → length p ≡ length q → length (added F p q) ≡ length p
 length_added F [] q e = refl
@@ -144,21 +145,26 @@ module _ {F : Operations} (laws : Lawful F) where
   multiple_step : (f a p e : ℕ) → (f ⊗ a) ⊗ p ⊕ f ⊗ e ≡ f ⊗ (e ⊕ a ⊗ p)
   multiple_step f a p e = simp (distributes, times_assoc, plus_comm)
 
-  -- one more coefficient of f times g, written from the end of the row
-  pub multiple_turn : (x f : ℕ) (g row : List ℕ) (n k v : ℕ) → k < n → length g ≡ n → length row ≡ n → v ≡ f ⊗ get_or g k 0
-      → value F x (drop (n - k) row) ≡ f ⊗ eval F (take k g) x
-      → value F x (drop (n - (k + 1)) (set row (n - (k + 1)) v)) ≡ f ⊗ eval F (take (k + 1) g) x
-  multiple_turn x f g row n k v h lg lr e before =
-      let i : n - (k + 1) < length row = omega arith in
-      let next : n - (k + 1) + 1 ≡ n - k = omega arith in
+  -- f times the first coefficients of g, read from the end of the row
+  pub multiple_value : (x f : ℕ) (g row : List ℕ) (n : ℕ) → length g ≡ n → length row ≡ n → ((i : ℕ) → i < n → get_or row i 0 ≡ f ⊗ get_or g (n - 1 - i) 0)
+      → (k : ℕ) → k ≤ n → value F x (drop (n - k) row) ≡ f ⊗ eval F (take k g) x
+  multiple_value x f g row n lg lr e zero h =
+      let none : n - 0 ≡ length row = omega arith in
+      ap (value F x) (ap (λ m. drop m row) none ∙ drop-length row) ∙ sym (times_zero_right laws f)
+  multiple_value x f g row n lg lr e (suc k) h =
+      let i = n - suc k in
+      let inside : i < length row = omega arith in
+      let next : i + 1 ≡ n - k = omega arith in
+      let mirrored : n - 1 - i ≡ k = omega arith in
+      let here : get_or row i 0 ≡ f ⊗ get_or g k 0 = e i (omega arith) ∙ ap (λ m. f ⊗ get_or g m 0) mirrored in
       let hg : k < length g = omega arith in
       let long : length (drop (n - k) row) ≡ k = simp length-drop (omega arith) in
       let longer : length (take k g) ≡ k = length-take-le k g (omega arith) in
-      ap (value F x) (drop-set row (n - (k + 1)) v i ∙ ap (λ m. v ∷ drop m row) next)
-      ∙ ap (λ m. v ⊗ power F x m ⊕ value F x (drop (n - k) row)) long
-      ∙ ap (λ z. z ⊗ power F x k ⊕ value F x (drop (n - k) row)) e
-      ∙ ap (λ z. f ⊗ get_or g k 0 ⊗ power F x k ⊕ z) before
+      ap (value F x) (drop_more row i 0 inside ∙ ap (λ m. get_or row i 0 ∷ drop m row) next)
+      ∙ ap (λ m. get_or row i 0 ⊗ power F x m ⊕ value F x (drop (n - k) row)) long
+      ∙ ap (λ z. z ⊗ power F x k ⊕ value F x (drop (n - k) row)) here
+      ∙ ap (λ z. f ⊗ get_or g k 0 ⊗ power F x k ⊕ z) (multiple_value x f g row n lg lr e k (omega arith))
       ∙ multiple_step f (get_or g k 0) (power F x k) (eval F (take k g) x)
       ∙ ap (λ m. f ⊗ (eval F (take k g) x ⊕ get_or g k 0 ⊗ power F x m)) (sym longer)
       ∙ ap (λ z. f ⊗ z) (sym (eval_push (take k g) (get_or g k 0) x))
-      ∙ ap (λ p. f ⊗ eval F p x) (sym (take_more g k 0 hg))
+      ∙ ap (λ p. f ⊗ eval F p x) (sym (take_more g k 0 hg) ∙ ap (λ m. take m g) (add-one k))

@@ -26,8 +26,11 @@ pub data Misshapen (w : List ℕ) : Refusal → Type 0 where
   not_full : length w ≢ word_length → Misshapen w (refusal 3 Code 0)
   too_large : (place : ℕ) → FirstTooLarge w place → Misshapen w (refusal 6 Code place)
 
+abbrev pub beyond_repair_text : List ℕ
+beyond_repair_text = codes "no codeword within reach"
+
 -- what a fault prints
 abbrev pub code_fault_text : CodeFault → List ℕ
 code_fault_text CodeFault.Length = codes "a word of the wrong length"
 code_fault_text (CodeFault.SymbolTooLarge place) = codes "a symbol above 511 at place " ++ decimal place
-code_fault_text CodeFault.BeyondRepair = codes "no codeword within reach"
+code_fault_text CodeFault.BeyondRepair = beyond_repair_text

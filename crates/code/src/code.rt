@@ -1,16 +1,15 @@
 //! A code over an arithmetic: completing a word and repairing it.
-ghost use Rattle.std.specs.Prelude.{◌≡◌, ℕ, ◌<◌, MatchOption, MatchResult, slice_index};
-ghost use Rattle.arithmetic.specs.Laws.{elements};
-ghost use Rattle.code.specs.Words.{word_length, Word};
-ghost use Rattle.code.specs.Faults.{FirstTooLarge, Misshapen, code_refusal};
-ghost use Rattle.code.specs.Outcomes.{Completed, CompleteRefused, Repaired, RepairRefused};
+ghost use Rattle.std.specs.Prelude.{◌≡◌, IfOk, OnErr, MatchResult};
+ghost use Rattle.code.specs.Faults.{code_refusal};
+ghost use Rattle.code.specs.Outcomes.{Completed, CompleteRefused, Repaired, Astray, RepairRefused};
 ghost use Rattle.code.specs.Prepared.{Ready};
 
-use crate::fault::CodeFault;
+use crate::fault::{BeyondRepair, CodeFault};
 use crate::mending::changes;
 use crate::register::is_zero;
 use crate::shapes::Tables;
-use crate::sizes::{ELEMENTS, MESSAGE, REACH, SYMBOLS};
+use crate::sizes::{MESSAGE, REACH};
+use crate::word::Word;
 use arithmetic::Arithmetic;
 
 /// A code over an arithmetic, with what it prepared.
@@ -19,36 +18,6 @@ pub struct Code<A: Arithmetic> {
     pub(crate) arithmetic: A,
     pub(crate) tables: Tables,
     ghost ready: { Ready (A.field arithmetic) tables.points tables.rows tables.steps },
-}
-
-/// The place of the first symbol above 511.
-fn first_too_large(word: &[u16; SYMBOLS]) -> Option<usize>
-    ensures { MatchOption result
-        ((k : ℕ) → k < word_length → slice_index word.now k < elements)
-        (λ place. FirstTooLarge word.now place) }
-{
-    // The largest is found without a branch for each symbol, and nearly every word is right.
-    let largest = word.iter().fold(0, |most, symbol| (*symbol).max(most));
-    if usize::from(largest) < ELEMENTS {
-        return None;
-    }
-    word.iter()
-        .position(|symbol| usize::from(*symbol) >= ELEMENTS)
-}
-
-/// The 450 symbols of a word, each an element.
-fn check(word: &[u16]) -> Result<&[u16; SYMBOLS], CodeFault>
-    ensures { MatchResult result
-        (λ symbols. (symbols.now ≡ word.now) × Word word.now)
-        (λ e. Misshapen word.now (code_refusal e)) }
-{
-    let Some(symbols) = word.as_array() else {
-        return Err(CodeFault::Length);
-    };
-    match first_too_large(symbols) {
-        Some(place) => Err(CodeFault::SymbolTooLarge { place }),
-        None => Ok(symbols),
-    }
 }
 
 impl<A: Arithmetic> Code<A> {
@@ -60,15 +29,25 @@ impl<A: Arithmetic> Code<A> {
         Code { arithmetic, tables }
     }
 
+    // `complete` and `repair` go over numbers, as callers have them and the refusals name them; `encode` and `decode` go by words.
     /// Writes the last 44 symbols so that the word is a codeword.
     pub fn complete(&self, word: &mut [u16]) -> Result<(), CodeFault>
         ensures completes { MatchResult result
             (λ _. Completed (A.field self.now.arithmetic) word.old word.new)
             (λ e. CompleteRefused word.old word.new (code_refusal e)) }
     {
-        let register = self.divide(check(word)?);
-        word[MESSAGE..].copy_from_slice(&register);
+        let mut completed = Word::try_from(&*word)?;
+        self.encode(&mut completed);
+        word.copy_from_slice(&completed.symbols);
         Ok(())
+    }
+
+    /// The same of a word that is known to be one: nothing is refused.
+    pub fn encode(&self, word: &mut Word)
+        ensures codeword_of_its_message { Completed (A.field self.now.arithmetic) word.old.symbols word.new.symbols }
+    {
+        let register = self.divide(&word.symbols);
+        word.symbols[MESSAGE..].copy_from_slice(&register);
     }
 
     /// Makes the word the codeword within 22 symbols, and answers how many symbols changed.
@@ -77,18 +56,29 @@ impl<A: Arithmetic> Code<A> {
             (λ changed. Repaired (A.field self.now.arithmetic) word.old word.new changed)
             (λ e. RepairRefused (A.field self.now.arithmetic) word.old word.new (code_refusal e)) }
     {
-        let received = check(word)?;
-        let left = self.remainder(received);
+        let mut repaired = Word::try_from(&*word)?;
+        let changed = self.decode(&mut repaired)?;
+        word.copy_from_slice(&repaired.symbols);
+        Ok(changed)
+    }
+
+    /// The same of a word that is known to be one: only that no codeword is within 22 symbols refuses it.
+    pub fn decode(&self, word: &mut Word) -> Result<usize, BeyondRepair>
+        ensures codeword_within_reach { IfOk result (λ changed. Repaired (A.field self.now.arithmetic) word.old.symbols word.new.symbols changed) }
+        ensures none_within_reach { OnErr result (Astray (A.field self.now.arithmetic) word.old.symbols) }
+        ensures refusal_writes_nothing { OnErr result (word.new ≡ word.old) }
+    {
+        let left = self.remainder(&word.symbols);
         if is_zero(&left) {
             return Ok(0);
         }
         let s = self.syndromes(&left);
-        let mended = self.candidate(&s, received);
-        let changed = changes(received, &mended);
-        if changed > REACH || !is_zero(&self.remainder(&mended)) {
-            return Err(CodeFault::BeyondRepair);
+        let mended = self.candidate(&s, word);
+        let differing = changes(word, &mended);
+        if differing > REACH || !is_zero(&self.remainder(&mended.symbols)) {
+            return Err(BeyondRepair);
         }
-        word.copy_from_slice(&mended);
-        Ok(changed)
+        *word = mended;
+        Ok(differing)
     }
 }

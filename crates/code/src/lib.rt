@@ -11,7 +11,9 @@ mod shapes;
 mod sizes;
 mod syndromes;
 mod tables;
+mod word;
 
 pub use code::Code;
-pub use fault::CodeFault;
+pub use fault::{BeyondRepair, CodeFault};
 pub use refusal::Fault;
+pub use word::Word;

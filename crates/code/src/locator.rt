@@ -13,6 +13,7 @@ fn add_multiple<A: Arithmetic>(a: &A, k: u16, p: &[u16], q: &mut [u16])
     requires { length p.now < length q.old }
     ensures { q.new ≡ plus_monic (A.field a.now) k p.now q.old }
 {
+    // Tried as `q.iter_mut().zip(p)`: of what is written under that adapter a proof knows nothing.
     for (i, c) in p.iter().enumerate() {
         q[i] = a.sum(q[i], a.product(k, *c));
     }

@@ -1,20 +1,24 @@
 //! The candidate for a repair: the word with corrections at the suspected places.
 ghost use Rattle.std.specs.Prelude.{◌≡◌, ℕ, ◌<◌, ◌≤◌, List, slice_index};
-ghost use Rattle.arithmetic.specs.Laws.{elements};
-ghost use Rattle.code.specs.Words.{parity, reach, word_length, coefficient, distance, syndrome, Word, Codeword};
+ghost use Rattle.code.specs.Words.{parity, reach, word_length, coefficient, distance, syndrome, Codeword};
 ghost use Rattle.code.specs.Polynomials.{reads, correction as corrects};
 ghost use Rattle.code.specs.Locating.{poly, restored};
 
 use crate::code::Code;
 use crate::shapes::{Monic, Syndromes};
 use crate::sizes::SYMBOLS;
+use crate::word::Word;
 use arithmetic::Arithmetic;
 
 /// In how many places two words differ.
-pub(crate) fn changes(u: &[u16; SYMBOLS], v: &[u16; SYMBOLS]) -> usize
-    ensures { result ≡ distance u.now v.now }
+pub(crate) fn changes(u: &Word, v: &Word) -> usize
+    ensures { result ≡ distance u.now.symbols v.now.symbols }
 {
-    u.iter().zip(v).filter(|(x, y)| **x != **y).count()
+    u.symbols
+        .iter()
+        .zip(&v.symbols)
+        .filter(|(x, y)| **x != **y)
+        .count()
 }
 
 impl<A: Arithmetic> Code<A> {
@@ -29,7 +33,8 @@ impl<A: Arithmetic> Code<A> {
         let mut value = 1;
         let mut numerator = s.sums[p.degree - 1];
         let mut denominator = 1;
-        // From the highest coefficient down, each with the sum one place below: as `zip` and `rev` of two slices no proof was found.
+        // From the highest coefficient down, each with the sum one place below. A fold over two slices under `rev` and `zip` was tried
+        // and proves; it is an instruction more at each turn, and no call of the code may get slower.
         for k in (1..p.degree).rev() {
             value = a.sum(p.low[k], a.product(x, value));
             numerator = a.sum(a.product(value, s.sums[k - 1]), numerator);
@@ -39,29 +44,28 @@ impl<A: Arithmetic> Code<A> {
     }
 
     /// Adds the corrections where the values are zero.
-    fn mend(&self, values: &[u16; SYMBOLS], p: &Monic, s: &Syndromes, word: &mut [u16; SYMBOLS])
-        requires some { (i : ℕ) → i < word_length → slice_index values.now i ≡ 0 → 0 < p.now.degree }
-        requires fits { (k : ℕ) → slice_index word.old k < elements }
-        ensures fits { (k : ℕ) → slice_index word.new k < elements }
-        ensures right { let f = A.field self.now.arithmetic in
-            (i : ℕ) → i < word_length → coefficient word.new i ≡ restored f values.now s.now.sums (poly p.now) word.old i }
+    fn mend(&self, values: &[u16; SYMBOLS], p: &Monic, s: &Syndromes, word: &mut Word)
+        requires { (i : ℕ) → i < word_length → slice_index values.now i ≡ 0 → 0 < p.now.degree }
+        ensures { let f = A.field self.now.arithmetic in
+            (i : ℕ) → i < word_length → coefficient word.new.symbols i ≡ restored f values.now s.now.sums (poly p.now) word.old.symbols i }
     {
+        // By number: the coefficient i stands i places before the end, and the place is what the correction asks for; a zip with the
+        // symbols from the end would write under an adapter, of which a proof knows nothing.
         for (i, value) in values.iter().enumerate() {
             if *value == 0 {
                 let change = self.correction(s, p, i);
-                word[SYMBOLS - 1 - i] = self.arithmetic.sum(word[SYMBOLS - 1 - i], change);
+                let symbol = &mut word.symbols[SYMBOLS - 1 - i];
+                *symbol = self.arithmetic.sum(*symbol, change);
             }
         }
     }
 
     /// A word that is the codeword within 22 places, if there is one.
-    pub(crate) fn candidate(&self, s: &Syndromes, word: &[u16; SYMBOLS]) -> [u16; SYMBOLS]
-        requires word { Word word.now }
-        requires right { let f = A.field self.now.arithmetic in
-            (j : ℕ) → j < parity → reads s.now.sums j ≡ syndrome f word.now j }
-        ensures word { Word result }
-        ensures only { let f = A.field self.now.arithmetic in
-            (v : List ℕ) → Codeword f v → distance word.now v ≤ reach → v ≡ result }
+    pub(crate) fn candidate(&self, s: &Syndromes, word: &Word) -> Word
+        requires { let f = A.field self.now.arithmetic in
+            (j : ℕ) → j < parity → reads s.now.sums j ≡ syndrome f word.now.symbols j }
+        ensures { let f = A.field self.now.arithmetic in
+            (v : List ℕ) → Codeword f v → distance word.now.symbols v ≤ reach → v ≡ result.symbols }
     {
         let values = self.values(&s.locator(&self.arithmetic));
         let product = self.product_over_zeros(&values);

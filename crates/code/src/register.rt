@@ -47,10 +47,10 @@ impl<A: Arithmetic> Code<A> {
         let mut register = [0u16; PARITY];
         for [x, y] in pairs {
             let k = a.sum(register[0], *x);
-            let first = &self.tables.rows[k as usize];
+            let first = &self.tables.rows[usize::from(k)];
             let head = a.sum(register[1], first[0]);
             let next = a.sum(head, *y);
-            let second = &self.tables.rows[next as usize];
+            let second = &self.tables.rows[usize::from(next)];
             advance_twice(a, &mut register, first, second);
         }
         register

@@ -17,6 +17,8 @@ fn first_terms<A: Arithmetic>(a: &A, p: &Monic) -> [u16; TERMS]
     ensures { Terms (A.field a.now) (whole p.now) 1 result }
 {
     let mut terms = [0u16; TERMS];
+    // Tried as `terms.iter_mut().zip(..)`: of what is written under that adapter a proof knows nothing. `array::from_fn` would ask
+    // of each place whether it is below the degree, at it or above it.
     for (k, c) in p.low[..p.degree].iter().enumerate() {
         terms[k] = a.product(*c, 1);
     }
@@ -38,7 +40,8 @@ impl<A: Arithmetic> Code<A> {
             (i : ℕ) → i < word_length → slice_index result i ≡ eval_monic f (poly p.now) (power f f.alpha i) }
     {
         let mut all = first_terms(&self.arithmetic, p);
-        let terms = &mut all[..p.degree + 1];
+        // The terms that there are, of an array for as many as there may be: no memory is asked for.
+        let terms = &mut all[..=p.degree];
         let mut values = [0u16; SYMBOLS];
         for value in values.iter_mut() {
             *value = total_of(&self.arithmetic, terms);
@@ -55,11 +58,13 @@ impl<A: Arithmetic> Code<A> {
             AllByRecursion (λ i. eval_monic f (poly result) (power f f.alpha i) ≡ 0)
             (filter (zero_at values.now) (below (length values.now))) }
     {
+        // Tried as one `Monic` whose fields the loop writes: once a part of its array was lent and its degree written, the proof
+        // had no fact of the array any more.
         let mut low = [0u16; REACH];
         let mut degree = 0;
         for (value, point) in values.iter().zip(&self.tables.points) {
             if *value == 0 {
-                times_root(&self.arithmetic, *point, &mut low, degree);
+                times_root(&self.arithmetic, *point, &mut low[..=degree]);
                 degree += 1;
             }
         }

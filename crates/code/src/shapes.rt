@@ -17,16 +17,16 @@ pub(crate) struct Tables {
     pub(crate) steps: [[u16; ELEMENTS]; PARITY],
 }
 
-// Words and registers stay plain arrays: a type that says each number is an element would be wrapped and unwrapped at each call.
 /// The sums 0 to 43 of a word.
+// Registers, remainders and terms have no such type: it would be wrapped and unwrapped at each call.
 #[derive(Clone, Copy)]
 pub(crate) struct Syndromes {
     pub(crate) sums: [u16; PARITY],
     ghost small: { (j : ℕ) → reads sums j < elements },
 }
 
-// An ArrayVec is no plainer: it is no Copy, so each step clones it, and a shift and a sum are written into an array of zeros.
 /// A monic polynomial: its degree, and the coefficients below the leading 1, from the lowest.
+// An ArrayVec is no plainer: it is no Copy, so each step clones it, and a shift and a sum are written into an array of zeros.
 #[derive(Clone, Copy)]
 pub(crate) struct Monic {
     pub(crate) degree: usize,

@@ -1,6 +1,6 @@
 //! The sizes of the code.
 
-/// The elements are the numbers below this one.
+/// The elements are the numbers below this one, as the arithmetic says of its answers.
 pub(crate) const ELEMENTS: usize = 512;
 
 /// The symbols of a word.

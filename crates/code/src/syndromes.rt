@@ -17,9 +17,10 @@ impl<A: Arithmetic> Code<A> {
         ensures { let f = A.field self.now.arithmetic in
             (k : ℕ) → k < length numbers.old → slice_index numbers.new k ≡ f.times (power f f.alpha k) (slice_index numbers.old k) }
     {
+        // Tried as `numbers.iter_mut().zip(&self.tables.steps)`: of what is written under that adapter a proof knows nothing.
         for (k, number) in numbers.iter_mut().enumerate() {
             let row = &self.tables.steps[k];
-            *number = row[*number as usize];
+            *number = row[usize::from(*number)];
         }
     }
 

@@ -1,5 +1,5 @@
 //! What a code prepares: the powers of alpha, the multiples of the generator polynomial, and the products with powers of alpha.
-ghost use Rattle.std.specs.Prelude.{◌≡◌, ℕ, ◌+◌, ◌<◌, length, take, slice_index};
+ghost use Rattle.std.specs.Prelude.{◌≡◌, ℕ, ◌+◌, ◌-◌, ◌<◌, length, take, slice_index};
 ghost use Rattle.arithmetic.specs.Laws.{power};
 ghost use Rattle.code.specs.Words.{parity};
 ghost use Rattle.code.specs.Polynomials.{value, eval, times_linear};
@@ -25,18 +25,19 @@ fn powers<A: Arithmetic>(a: &A) -> [u16; SYMBOLS]
     points
 }
 
-/// Multiplies the monic polynomial whose coefficients are the first d of p, from the lowest, by x + y.
-pub(crate) fn times_root<A: Arithmetic>(a: &A, y: u16, p: &mut [u16], d: usize)
-    requires { d < length p.old }
-    ensures { take (d + 1) p.new ≡ times_linear (A.field a.now) y 0 (take d p.old) }
+/// Multiplies a monic polynomial by x + y: its coefficients from the lowest, and a place for the one more that the product has.
+pub(crate) fn times_root<A: Arithmetic>(a: &A, y: u16, p: &mut [u16])
+    requires { 0 < length p.old }
+    ensures { p.new ≡ times_linear (A.field a.now) y 0 (take (length p.old - 1) p.old) }
 {
+    let last = p.len() - 1;
     let mut carried = 0;
-    for c in p[..d].iter_mut() {
+    for c in p[..last].iter_mut() {
         let old = *c;
         *c = a.sum(carried, a.product(y, old));
         carried = old;
     }
-    p[d] = a.sum(carried, y);
+    p[last] = a.sum(carried, y);
 }
 
 /// The coefficients below the leading 1 of the product of x + alpha^j, from the lowest.
@@ -45,8 +46,9 @@ fn generator<A: Arithmetic>(a: &A, points: &[u16; SYMBOLS]) -> [u16; PARITY]
     ensures { let f = A.field a.now in Vanishes f (power f f.alpha) parity result }
 {
     let mut g = [0u16; PARITY];
+    // The number is the degree so far.
     for (degree, point) in points[..PARITY].iter().enumerate() {
-        times_root(a, *point, &mut g, degree);
+        times_root(a, *point, &mut g[..=degree]);
     }
     g
 }
@@ -55,16 +57,12 @@ fn generator<A: Arithmetic>(a: &A, points: &[u16; SYMBOLS]) -> [u16; PARITY]
 fn multiple<A: Arithmetic>(a: &A, k: u16, g: &[u16; PARITY]) -> [u16; PARITY]
     ensures { let f = A.field a.now in (x : ℕ) → value f x result ≡ f.times k (eval f g.now x) }
 {
-    let mut row = [0u16; PARITY];
-    for (i, c) in g.iter().enumerate() {
-        row[PARITY - 1 - i] = a.product(k, *c);
-    }
-    row
+    array::from_fn(|i| a.product(k, g[PARITY - 1 - i]))
 }
 
-// These rows and those of `steps` are filled alike: one function for both sizes and facts has longer clauses than the loops.
-// Tried as `array::from_fn`: the closures ask for clauses of their own, for the cast of k and for what a row is.
 /// The multiples of the generator polynomial without its leading term.
+// Filled as `steps` is: one function for both sizes and facts has longer clauses than the loops. `array::from_fn` was tried for both;
+// each row is the answer of another function, and the proof knew nothing of it. The cast: `u16::try_from` would answer an Err that cannot occur.
 fn multiples<A: Arithmetic>(a: &A, g: &[u16; PARITY]) -> [[u16; PARITY]; ELEMENTS]
     requires { let f = A.field a.now in Vanishes f (power f f.alpha) parity g.now }
     ensures { Multiples (A.field a.now) parity result }
@@ -84,6 +82,7 @@ fn products<A: Arithmetic>(a: &A, x: u16) -> [u16; ELEMENTS]
 }
 
 /// The products of the first powers of alpha and all elements.
+// Tried as `rows.iter_mut().zip(points)`: of what is written under that adapter a proof knows nothing.
 fn steps<A: Arithmetic>(a: &A, points: &[u16; SYMBOLS]) -> [[u16; ELEMENTS]; PARITY]
     requires { Powers (A.field a.now) points.now }
     ensures { Steps (A.field a.now) parity result }

@@ -8,10 +8,11 @@ ghost use Rattle.code_c.specs.Batches.{word_at, Answered};
 use arithmetic::Tabled;
 use code::Code;
 
-/// The symbols of a word.
+/// The symbols of a word. The code has the number for itself.
 const SYMBOLS: usize = 450;
 
-/// What is answered in place of a number of symbols when a word is refused: a caller in C gets a number for each word.
+/// What is answered in place of a number of symbols when a word is refused.
+// No Option: a caller in C gets a number for each word.
 const REFUSED: usize = 1000;
 
 /// Completes or repairs a word; answers how many symbols the repair changed.
@@ -26,13 +27,15 @@ fn run_one(code: &Code<Tabled>, word: &mut [u16], completing: bool) -> usize
     changed.unwrap_or(REFUSED)
 }
 
-/// Completes or repairs each word, and writes its answer at its place. A caller in C says by a bool which it is.
+/// Completes or repairs each word, and writes its answer at its place.
+// A bool chooses the step, and the words stand one after the other in one slice: that is what a caller in C can hand over.
 #[unsafe(no_mangle)]
 pub extern "C" fn code_run_words(words: &mut [u16], answers: &mut [usize], completing: bool)
     ensures each { (k : ℕ) → k < length answers.old → 450 * k + 450 ≤ length words.old → Answered polynomials completing (word_at words.old k) (word_at words.new k) (slice_index answers.new k) }
 {
     let code = Code::new(Tabled);
     let count = answers.len().min(words.len() / SYMBOLS);
+    // By index: a zip with `chunks_exact_mut` was tried, which says nothing of what the words end as.
     for (k, answer) in answers[..count].iter_mut().enumerate() {
         let word = &mut words[SYMBOLS * k..SYMBOLS * k + SYMBOLS];
         *answer = run_one(&code, word, completing);

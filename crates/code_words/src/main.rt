@@ -17,6 +17,7 @@ fn symbols(heap: Global, line: &str) -> anyhow::Result<Vec<u16>> {
     Ok(word)
 }
 
+// By its parts and no Display: the stored output has them bare, and what a Refusal prints has words between them.
 fn show_refusal(rt: &HostRuntime, fault: CodeFault) -> io::Result<()> {
     let Refusal {
         number,
@@ -26,6 +27,7 @@ fn show_refusal(rt: &HostRuntime, fault: CodeFault) -> io::Result<()> {
     println!(rt; "refused {number} {layer} {place}")
 }
 
+// As other programs print their lists: a crate for them all would hold these three lines.
 fn show_word(rt: &HostRuntime, word: &[u16]) -> io::Result<()> {
     print!(rt; "word")?;
     for symbol in word {
@@ -41,6 +43,7 @@ fn answer(
     line: &str,
 ) -> anyhow::Result<()> {
     let mut word = symbols(rt.alloc(), line)?;
+    // The first word says which; an enum would be made and matched in these two lines alone.
     if line.starts_with("complete") {
         match completing.complete(&mut word) {
             Ok(()) => println!(rt; "completed")?,

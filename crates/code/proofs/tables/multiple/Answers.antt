@@ -1,21 +1,17 @@
-use Rattle.std.proofs.Common.{◌≡◌, ◌+◌, ◌-◌, ◌<◌, length, drop, set, sym, refl, ap, ◌∙◌, arith, length-set}
-use Rattle.code.specs.Polynomials.{value}
-use Rattle.code.proofs.Basic.{times_zero_right}
-use Rattle.code.proofs.Values.{multiple_turn}
+use Rattle.std.proofs.Common.{◌≡◌, ◌-◌, length, get_or, ap, ◌∙◌, arith, rules}
+use Rattle.std.proofs.lemmas.List.{take_all}
+use Rattle.code.specs.Polynomials.{eval}
+use Rattle.code.proofs.Filled.{made_with}
+use Rattle.code.proofs.Values.{multiple_value}
 use Rattle.code.proofs.tables.multiple.Goals as goal
 
-pub loop-i-init : goal.loop-i-init
-loop-i-init g c = (refl, λ x. sym (times_zero_right (g.met.A.Arithmetic.lawful c.args.a.now) c.args.k))
-
-pub loop-i-preserved : goal.loop-i-preserved
-loop-i-preserved g c =
+pub returns : goal.returns
+returns g c = λ x.
     let f = g.A.Arithmetic.field c.args.a.now in
-    let i = c.loop-i.i in
-    let h : i < 44 = omega arith in
-    let e : 43 - i ≡ 44 - (i + 1) = omega arith in
-    let lg : length c.args.g.now ≡ 44 = omega arith in (
-      simp length-set c.loop-i.invariant.0,
-      λ x.
-          ap (λ n. value f x (drop (44 - (i + 1)) (set c.loop-i.row n c.product.result))) e
-          ∙ multiple_turn (g.met.A.Arithmetic.lawful c.args.a.now) x c.args.k c.args.g.now c.loop-i.row 44 i c.product.result h lg c.loop-i.invariant.0 c.product.ensures.value (c.loop-i.invariant.1 x),
-    )
+    let k = c.args.k in
+    let p = c.args.g.now in
+    let row = c.from_fn.result in
+    let long : length p ≡ 44 = omega arith in
+    let made = made_with _ (λ i y. y ≡ f.times k (get_or p (43 - i) 0)) _ row 0 0 44 c.from_fn.ensures.items.each (λ j y q r. search rules) in
+    multiple_value (g.met.A.Arithmetic.lawful c.args.a.now) x k p row 44 long c.from_fn.ensures.items.long (λ i h. made i (omega arith) h) 44 (omega arith)
+    ∙ ap (λ q. f.times k (eval f q x)) (take_all 44 p (omega arith))

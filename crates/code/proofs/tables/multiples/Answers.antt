@@ -1,19 +1,7 @@
-use Rattle.std.proofs.Common.{◌≡◌, ℕ, ◌<◌, [], length, sym, ap, ◌∙◌, arith, length-set}
+use Rattle.std.proofs.Common.{◌≡◌, length, sym, ap, ◌∙◌, arith}
 use Rattle.arithmetic.specs.Laws.{power}
-use Rattle.code.specs.Polynomials.{value, eval}
-use Rattle.code.proofs.Filled.{filled_more}
 use Rattle.code.proofs.Values.{eval_root}
 use Rattle.code.proofs.tables.multiples.Goals as goal
-
-pub loop-k-preserved : goal.loop-k-preserved
-loop-k-preserved g c =
-    let f = g.A.Arithmetic.field c.args.a.now in
-    let rows = c.loop-k.row-items in
-    let r = c.multiple.result in
-    let lt : c.loop-k.k < length rows = omega arith in
-    let lr : length r ≡ 44 = omega arith in
-    let next = filled_more (λ i q. (length q ≡ 44) × ((x : ℕ) → value f x q ≡ f.times i (eval f c.args.g.now x))) rows [] r c.loop-k.k lt c.loop-k.invariant.1 (lr, c.multiple.ensures) in
-    (simp length-set c.loop-k.invariant.0, next)
 
 pub returns : goal.returns
 returns g c =

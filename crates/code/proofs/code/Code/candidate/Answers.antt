@@ -14,27 +14,27 @@ product_over_zeros-product-requires g c =
     let laws = g.met.A.Arithmetic.lawful c.args.self.now.arithmetic in
     omega (arith, few_zeros laws (poly p) c.values-values.result 450 (omega arith) (omega arith) c.values-values.ensures, length-take p.degree p.low, c.locator.result.within)
 
-pub mend-requires-clause-some : goal.mend-requires-clause-some
-mend-requires-clause-some g c = λ i h z.
+pub mend-requires : goal.mend-requires
+mend-requires g c = λ i h z.
     let values = c.values-values.result in
     omega (arith, kept_some (zero_at values) (length values) i (omega arith) (eq-eqb (get_or values i 0) 0 z), c.product_over_zeros-product.ensures.degree)
 
-pub returns-clause-only : goal.returns-clause-only
-returns-clause-only g c = λ v hv near.
+pub returns : goal.returns
+returns g c = λ v hv near.
     let f = g.A.Arithmetic.field c.args.self.now.arithmetic in
     let laws = g.met.A.Arithmetic.lawful c.args.self.now.arithmetic in
     let p = c.locator.result in
     let q = c.product_over_zeros-product.result in
-    let w = c.args.word.now in
+    let w = c.args.word.now.symbols in
     let s = c.args.s.now.sums in
     let values = c.values-values.result in
-    let mended = c.mend.new.word in
-    let long : length mended ≡ 450 = omega arith in
+    let mended = c.mend.new.word.symbols in
+    let long : length mended ≡ 450 = c.mend.new.word.elements.full in
     let lv : length values ≡ 450 = omega arith in
     let roots = zeros_roots laws (poly p) values 450 (omega arith) lv c.values-values.ensures in
     let lq : length (poly q) ≡ q.degree = length-take-le q.degree q.low (omega (arith, c.product_over_zeros-product.result.within)) in
     let Zero : List ℕ → Type 0 = AllByRecursion (λ i. eval_monic f (poly q) (power f f.alpha i) ≡ 0) in
-    nearest laws (poly p) values 450 (omega arith) lv c.values-values.ensures w mended s (poly q) 22 c.requires.word.full long (λ i. c.requires.word.small _)
-    c.args.s.now.small (λ j h. c.requires.right j (omega arith)) (omega (arith, length-take p.degree p.low, c.locator.result.within)) c.locator.ensures
+    nearest laws (poly p) values 450 (omega arith) lv c.values-values.ensures w mended s (poly q) 22 c.args.word.now.elements.full long (λ i. c.args.word.now.elements.small _)
+    c.args.s.now.small (λ j h. c.requires j (omega arith)) (omega (arith, length-take p.degree p.low, c.locator.result.within)) c.locator.ensures
     (lq ∙ c.product_over_zeros-product.ensures.degree ∙ ap length roots) (subst Zero roots c.product_over_zeros-product.ensures.zeros)
-    c.mend.ensures.right v hv.word.full (λ i. hv.word.small _) (λ j h. hv.checks j (omega arith)) near
+    c.mend.ensures v hv.word.full (λ i. hv.word.small _) (λ j h. hv.checks j (omega arith)) near

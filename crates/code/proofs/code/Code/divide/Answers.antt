@@ -21,8 +21,10 @@ loop-x-preserved g c =
     let pairs = c.as_chunks.result.0.now in
     let i = c.loop-x.x-index in
     let r = c.loop-x.register in
-    let k = c.sum-k.result in
-    let next = c.sum-next.result in
+    let k = c.from.result in
+    let next = c.from-in-loop-x.result in
+    let key : k ≡ c.sum-k.result = omega arith in
+    let key_2 : next ≡ c.sum-next.result = omega arith in
     let first = get_or rows k [] in
     let second = get_or rows next [] in
     let lr : length r ≡ 44 = c.loop-x.invariant.0 in
@@ -37,14 +39,14 @@ loop-x-preserved g c =
     let at_one : 2 * i + 0 ≡ 2 * i = omega arith in
     let one_in : 2 * i < length word = omega arith in
     let two_in : 2 * i + 1 < length word = omega arith in
-    let long : length first ≡ length r = multiples.long k c.sum-k.ensures.below ∙ sym lr in
-    let fed = c.sum-k.ensures.value ∙ ap (f.plus (get_or r 0 0)) (symbol 0 (omega arith) ∙ ap (λ m. get_or word m 0) at_one) in
+    let long : length first ≡ length r = multiples.long k (omega (arith, c.sum-k.ensures.below)) ∙ sym lr in
+    let fed = key ∙ c.sum-k.ensures.value ∙ ap (f.plus (get_or r 0 0)) (symbol 0 (omega arith) ∙ ap (λ m. get_or word m 0) at_one) in
     let one : Divided f 44 (take (2 * i + 1) word) (advanced f r first) =
-    divided_more laws 44 rows word r (2 * i) k multiples one_in lr (omega arith) c.sum-k.ensures.below fed c.loop-x.invariant.2 in
-    let head = c.sum-next.ensures.value ∙ ap (f.plus c.sum-head.result) (symbol 1 (omega arith))
+    divided_more laws 44 rows word r (2 * i) k multiples one_in lr (omega arith) (omega (arith, c.sum-k.ensures.below)) fed c.loop-x.invariant.2 in
+    let head = key_2 ∙ c.sum-next.ensures.value ∙ ap (f.plus c.sum-head.result) (symbol 1 (omega arith))
     ∙ ap (λ z. f.plus z (get_or word (2 * i + 1) 0)) (c.sum-head.ensures.value ∙ sym (advanced_at laws r first 0 long some)) in
     let two : Divided f 44 (take (2 * i + 1 + 1) word) (advanced f (advanced f r first) second) =
-    divided_more laws 44 rows word (advanced f r first) (2 * i + 1) next multiples two_in (length_advanced laws r first some long ∙ lr) (omega arith) c.sum-next.ensures.below head one in
+    divided_more laws 44 rows word (advanced f r first) (2 * i + 1) next multiples two_in (length_advanced laws r first some long ∙ lr) (omega arith) (omega (arith, c.sum-next.ensures.below)) head one in
     let moved : c.advance_twice.new.register ≡ advanced f (advanced f r first) second = c.advance_twice.ensures in
     let small : List ℕ → Type 0 = λ q. (n : ℕ) → get_or q n 0 < 512 in
     let further : 2 * i + 1 + 1 ≡ 2 * (i + 1) = omega arith in

@@ -3,8 +3,7 @@ use Rattle.std.proofs.lemmas.List.{take_more}
 use Rattle.arithmetic.specs.Laws.{power}
 use Rattle.code.specs.Polynomials.{value}
 use Rattle.code.proofs.Values.{value_step}
-use Rattle.code.proofs.Registers.{zeros_small}
-use Rattle.code.proofs.Completion.{zeros_zero}
+use Rattle.code.proofs.Registers.{zeros_zero, zeros_small}
 use Rattle.code.proofs.code.Code.syndromes.Goals as goal
 
 pub loop-c-init : goal.loop-c-init

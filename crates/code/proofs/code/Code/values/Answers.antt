@@ -1,25 +1,11 @@
-use Rattle.std.proofs.Common.{◌≡◌, ℕ, suc, ◌+◌, ◌<◌, ◌≤◌, ◌∷◌, [], length, get_or, refl, sym, ap, ◌∙◌, subst, add-one, arith, length-append, length-set}
-use Rattle.std.proofs.lemmas.List.{get_or-take, length-take-le}
+use Rattle.std.proofs.Common.{◌≡◌, ℕ, suc, ◌+◌, ◌<◌, ◌∷◌, [], length, get_or, sym, ap, ◌∙◌, subst, add-one, arith, length-append, length-set}
+use Rattle.std.proofs.lemmas.List.{length-take-le}
 use Rattle.arithmetic.specs.Laws.{power}
 use Rattle.code.specs.Polynomials.{eval_monic}
 use Rattle.code.specs.Locating.{poly, whole, Terms}
 use Rattle.code.proofs.Filled.{filled_more}
 use Rattle.code.proofs.Places.{total_value, next_term}
 use Rattle.code.proofs.code.Code.values.Goals as goal
-
-pub loop-value-init : goal.loop-value-init
-loop-value-init g c =
-    let p = c.args.p.now in
-    let all = c.first_terms-all.result in
-    let n = p.degree + 1 in
-    let room : n ≤ length all = omega arith in
-    let size : length (whole p) ≤ n = omega (arith, length-append (poly p) (1 ∷ []), length-take-le p.degree p.low) in (
-      refl,
-      length-take-le n all room,
-      λ k h. (let b : k < n = omega arith in let same = get_or-take n all k 0 b in
-          (omega (arith, (c.first_terms-all.ensures k h).0), same ∙ (c.first_terms-all.ensures k h).1)),
-      λ j h. absurd (omega arith),
-    )
 
 pub loop-value-preserved : goal.loop-value-preserved
 loop-value-preserved g c =
