@@ -16,6 +16,11 @@ use Rattle.codec.specs.declared.faults.EndFault.{EndFault}
 use Rattle.blocks.specs.declared.faults.BlockFault.{BlockFault}
 use Rattle.codec.specs.declared.faults.LineFault.{LineFault}
 
+-- the first of the faults found, and then nothing is written, or what the call did
+abbrev pub FirstOr : Type 0 → List EndFault → Call → Call → Outcome → Type 0
+FirstOr X found left asked outcome =
+    elim found as (λ f. Type 0) [ [] ↦ X | fault ∷ more ↦ (left ≡ asked) × (outcome ≡ Refused fault) ]
+
 abbrev Early : EndFault → Type 0
 Early fault = is_period (Refused fault) ≡ false
 
@@ -74,12 +79,12 @@ early lock call = all_early (checks lock call) (checks_early lock call)
 
 -- a call that was a period had no early fault
 performed : {X : Type 0} (found : List EndFault) (left asked : Call) (outcome : Outcome) → AllByRecursion Early found
-    → elim found as (λ f. Type 0) [ [] ↦ X | fault ∷ more ↦ (left ≡ asked) × (outcome ≡ Refused fault) ] → T (is_period outcome) → X
+    → FirstOr X found left asked outcome → T (is_period outcome) → X
 performed [] left asked outcome a h t = h
 performed (fault ∷ more) left asked outcome a h t = absurd (subst T (ap is_period h.1 ∙ a.0) t)
 
 unfaulted : (found : List EndFault) (left asked : Call) (outcome : Outcome) (X : Type 0) → AllByRecursion Early found
-    → elim found as (λ f. Type 0) [ [] ↦ X | fault ∷ more ↦ (left ≡ asked) × (outcome ≡ Refused fault) ] → T (is_period outcome) → found ≡ []
+    → FirstOr X found left asked outcome → T (is_period outcome) → found ≡ []
 unfaulted [] left asked outcome X a h t = refl
 unfaulted (fault ∷ more) left asked outcome X a h t = absurd (subst T (ap is_period h.1 ∙ a.0) t)
 
@@ -107,7 +112,7 @@ not_refused outcome other fault e f r = absurd (subst T (ap is_refused (sym r �
 -- the early fault, or what the call did
 stated : {X Y : Type 0} (found : List EndFault) (left asked : Call) (outcome : Outcome) (fault : EndFault)
     → (X → (outcome ≡ Refused fault) ↔ (Y × (fault ≡ beyond_repair)))
-    → elim found as (λ f. Type 0) [ [] ↦ X | f ∷ more ↦ (left ≡ asked) × (outcome ≡ Refused f) ]
+    → FirstOr X found left asked outcome
     → (outcome ≡ Refused fault) ↔ (elim found as (λ f. Type 0) [ [] ↦ Y × (fault ≡ beyond_repair) | f ∷ more ↦ fault ≡ f ])
 stated [] left asked outcome fault p h = p h
 stated (f ∷ more) left asked outcome fault p h = ((λ e. ap fault_in (sym e ∙ h.1)), (λ e. h.1 ∙ ap Refused (sym e)))
@@ -134,7 +139,7 @@ module _ (sender receiver : End) (ks kr : ℕ) (lock : Lock) (left : Call) (outc
 
 -- a refused call that was no period left everything as it was
 kept : {X : Type 0} (found : List EndFault) (left asked : Call) (outcome : Outcome) → (X → left ≡ asked)
-    → elim found as (λ f. Type 0) [ [] ↦ X | f ∷ more ↦ (left ≡ asked) × (outcome ≡ Refused f) ] → left ≡ asked
+    → FirstOr X found left asked outcome → left ≡ asked
 kept [] left asked outcome p h = p h
 kept (f ∷ more) left asked outcome p h = h.0
 

@@ -7,14 +7,13 @@ use Rattle.codec.specs.declared.faults.EndFault.{EndFault}
 use Rattle.codec.specs.declared.lock.Lock.{Lock}
 use Rattle.codec.specs.declared.request.Outcome.{Outcome}
 use Rattle.codec.specs.declared.request.Outcome.TheVariants.{Refused}
-use Rattle.codec.proofs.Answered.{early}
+use Rattle.codec.proofs.Answered.{FirstOr, early}
 
 pub performed : (end : End) (period : ℕ) (lock : Lock) (asked left : Call) (outcome : Outcome) → faults lock asked ≡ [] → Performs end period asked left outcome → Answers end period lock asked left outcome
-performed end period lock asked left outcome e h =
-    subst (λ found. elim found as (λ f. Type 0) [ [] ↦ Performs end period asked left outcome | fault ∷ more ↦ (left ≡ asked) × (outcome ≡ Refused fault) ]) (sym e) h
+performed end period lock asked left outcome e h = subst (λ found. FirstOr (Performs end period asked left outcome) found left asked outcome) (sym e) h
 
 turned_away : (X : Type 0) (found : List EndFault) (asked left : Call) (outcome : Outcome) (fault : EndFault) → first_of found ≡ Some fault → left ≡ asked → outcome ≡ Refused fault
-    → elim found as (λ f. Type 0) [ [] ↦ X | f ∷ more ↦ (left ≡ asked) × (outcome ≡ Refused f) ]
+    → FirstOr X found left asked outcome
 turned_away X [] asked left outcome fault e h r = let z : ◌≡◌ {A = ℕ} 0 1 = cc in absurd (omega arith)
 turned_away X (f ∷ more) asked left outcome fault e h r = let same : fault ≡ f = cc in (h, r ∙ ap Refused same)
 

@@ -1,12 +1,15 @@
 -- What it means that a call has no fault, and what its first fault is. Assumes nothing.
-use Rattle.std.proofs.Common.{◌≡◌, ℕ, zero, suc, ◌<◌, ◌≤◌, Bool, true, false, not, eqb, ltb, List, [], ◌∷◌, ◌++◌, length, ℤ, Some, refl, ap, ◌∙◌, inl, inr, arith}
+use Rattle.std.proofs.Common.{◌≡◌, ℕ, ◌<◌, ◌≤◌, Bool, true, false, not, eqb, ltb, List, [], ◌∷◌, ◌++◌, length, ℤ, Some, refl, ap, ◌∙◌, inl, inr, arith, None, Err, Option, Result, MatchOption, MutBor, subst}
 use Rattle.std.specs.List.{prefix_len}
-use Rattle.std.proofs.lemmas.Bool.{eqb-true, eq-eqb, ne_eqb, ltb-false, lt-ltb, le-ltb, both_ways}
+use Rattle.std.proofs.lemmas.List.Sums.{prefix_len_is, prefix_len_passes}
+use Rattle.std.proofs.lemmas.Bool.{eqb-true, eq-eqb, ne_eqb, ltb-false, lt-ltb, le-ltb, both_ways, false_from_ne_true}
+use Rattle.std.specs.Array.{IsWholeChunk}
+use Rattle.std.specs.Option.{ok_or}
 use Rattle.std.proofs.lemmas.Bool.Decides.{nat_tests}
 use Rattle.blocks.specs.Characters.{Character, Characters, FirstNoCharacter}
 use Rattle.blocks.specs.declared.faults.BlockFault.{BlockFault}
 use Rattle.lines.specs.LineCodes.{is_line_symbol}
-use Rattle.codec.specs.Calls.{send, sender_rest, receive, receiver_rest, is_character, fault_if, without_lock, wrong_length, wrong_number, faults, first_of}
+use Rattle.codec.specs.Calls.{send, sender_rest, receive, receiver_rest, is_character, fault_if, wrong_length, wrong_number, faults, first_of}
 use Rattle.codec.specs.declared.lock.Lock.{Lock}
 use Rattle.codec.specs.declared.lock.Lock.TheVariants.{Locked, Lost}
 use Rattle.codec.specs.declared.faults.LineFault.{LineFault}
@@ -29,36 +32,14 @@ of_test c e = grind (arith, nat_tests)
 
 -- the number that leads a list of characters, and where the first that is none stands
 
-pub leading_all : (cs : List ℕ) → Characters cs → prefix_len is_character cs ≡ length cs
-leading_all [] h = refl
-leading_all (c ∷ cs) h =
-    let t : is_character c ≡ true = test_of c (h 0 (omega arith)) in
-    let rest : prefix_len is_character cs ≡ length cs = leading_all cs (λ k l. h (suc k) (omega arith)) in
-    rw t (omega arith)
+leading_all : (cs : List ℕ) → Characters cs → prefix_len is_character cs ≡ length cs
+leading_all cs h = prefix_len_is is_character cs (length cs) 0 (omega arith) (λ k l. test_of _ (h k l)) (λ l. absurd (omega arith))
 
-pub leading_first : (cs : List ℕ) (place : ℕ) → FirstNoCharacter cs place → prefix_len is_character cs ≡ place
-leading_first [] place f = absurd (omega (arith, f.inside))
-leading_first (c ∷ cs) zero f = go (is_character c) refl
-  where
-    go : (b : Bool) → is_character c ≡ b → prefix_len is_character (c ∷ cs) ≡ 0
-    go true e = absurd (f.there (of_test c e))
-    go false e = rw e
-leading_first (c ∷ cs) (suc place) f =
-    let t : is_character c ≡ true = test_of c (f.before 0 (omega arith)) in
-    let rest : prefix_len is_character cs ≡ place = leading_first cs place (record { inside = omega (arith, f.inside); before = λ k l. f.before (suc k) (omega arith); there = f.there }) in
-    rw t (omega arith)
+leading_first : (cs : List ℕ) (place : ℕ) → FirstNoCharacter cs place → prefix_len is_character cs ≡ place
+leading_first cs place f = prefix_len_is is_character cs place 0 (omega (arith, f.inside)) (λ k l. test_of _ (f.before k l)) (λ l. false_from_ne_true _ (λ t. f.there (of_test _ t)))
 
-pub all_leading : (cs : List ℕ) → length cs ≤ prefix_len is_character cs → Characters cs
-all_leading [] h = λ k l. absurd (omega arith)
-all_leading (c ∷ cs) h = go (is_character c) refl (all_leading cs)
-  where
-    more : is_character c ≡ true → Characters cs → Characters (c ∷ cs)
-    more e rest zero l = of_test c e
-    more e rest (suc k) l = rest k (omega arith)
-
-    go : (b : Bool) → is_character c ≡ b → (length cs ≤ prefix_len is_character cs → Characters cs) → Characters (c ∷ cs)
-    go true e rest = more e (rest (omega (arith, rw e at h)))
-    go false e rest = absurd (omega (arith, rw e at h))
+all_leading : (cs : List ℕ) → length cs ≤ prefix_len is_character cs → Characters cs
+all_leading cs h k l = of_test _ (prefix_len_passes is_character cs k 0 (omega arith))
 
 -- no fault among several
 
@@ -106,39 +87,7 @@ sendable lock characters symbol line e =
       valid = all_leading characters (ltb-false (prefix_len is_character characters) (length characters) (unpassed (ltb (prefix_len is_character characters) (length characters)) (EndFault.Block (BlockFault.NoCharacter (prefix_len is_character characters))) (left_none d [] ds)));
     }
 
--- what a sender's rest and a receive without a fault are given
-
-pub rest_room : (lock : Lock) (line : List ℤ) → faults lock (sender_rest line) ≡ [] → length line ≡ 2700
-unfolding faults
-rest_room lock line e = right_length 0 2700 line (left_none (wrong_length 0 2700 line) [] e)
-
-pub record Receivable (lock : Lock) (line : List ℤ) (characters places : List ℕ) : Type 0 where
-  pub locked : lock ≡ Lost → ⊥
-  pub full : length line ≡ 2700
-  pub room : length characters ≡ 450
-  pub places_room : length places ≡ 22
-
-has_lock : (lock : Lock) → without_lock lock ≡ [] → lock ≡ Lost → ⊥
-has_lock (Locked bad) e l = let z : ◌≡◌ {A = ℕ} 0 1 = cc in omega arith
-has_lock Lost e l = let z : ◌≡◌ {A = ℕ} 0 1 = cc in omega arith
-
-pub receivable : (lock : Lock) (line : List ℤ) (characters places : List ℕ) → faults lock (receive line characters places) ≡ [] → Receivable lock line characters places
-unfolding faults
-receivable lock line characters places e =
-    let a = without_lock lock in
-    let b = wrong_length 0 2700 line in
-    let c = wrong_length 1 450 characters in
-    let d = wrong_length 2 22 places in
-    let f = wrong_number is_line_symbol (λ place. EndFault.Line (LineFault.NoLineSymbol place)) line in
-    let bs : b ++ (c ++ (d ++ (f ++ []))) ≡ [] = right_none a (b ++ (c ++ (d ++ (f ++ [])))) e in
-    let cs : c ++ (d ++ (f ++ [])) ≡ [] = right_none b (c ++ (d ++ (f ++ []))) bs in
-    let ds : d ++ (f ++ []) ≡ [] = right_none c (d ++ (f ++ [])) cs in
-    record {
-      locked = has_lock lock (left_none a (b ++ (c ++ (d ++ (f ++ [])))) e);
-      full = right_length 0 2700 line (left_none b (c ++ (d ++ (f ++ []))) bs);
-      room = right_length 1 450 characters (left_none c (d ++ (f ++ [])) cs);
-      places_room = right_length 2 22 places (left_none d (f ++ []) ds);
-    }
+-- a receiver's rest
 
 pub receiver_rest_found : (lock : Lock) → (lock ≡ Lost → ⊥) → faults lock receiver_rest ≡ []
 unfolding faults
@@ -148,6 +97,17 @@ receiver_rest_found Lost n = absurd (n refl)
 pub receiver_rest_lost : Starts (faults Lost receiver_rest) EndFault.NoLock
 unfolding faults
 receiver_rest_lost = refl
+
+-- a buffer asked for as an array, or else a fault
+
+module _ {A : Type 0} (n : ℕ) (xs : List A) (asked : Option (MutBor (List A))) (cases : MatchOption asked (length xs ≡ n → ⊥) (λ y. IsWholeChunk xs y.now n)) where
+  pub array_found : (a : MutBor (List A)) → asked ≡ Some a → (length xs ≡ n) × (a.now ≡ xs)
+  array_found a e = let whole = subst (λ r. MatchOption r (length xs ≡ n → ⊥) (λ y. IsWholeChunk xs y.now n)) e cases in (whole.long, whole.same)
+
+  pub array_refused : (fault told : EndFault) → asked ≡ None → Err told ≡ ok_or asked fault → (length xs ≡ n → ⊥) × (fault ≡ told)
+  array_refused fault told e h =
+      let same : ◌≡◌ {A = Result (MutBor (List A)) EndFault} (Err told) (Err fault) = h ∙ ap (λ r. ok_or r fault) e in
+      (subst (λ r. MatchOption r (length xs ≡ n → ⊥) (λ y. IsWholeChunk xs y.now n)) e cases, cc)
 
 -- the first fault of a call, check by check
 
@@ -210,22 +170,27 @@ module _ (line : List ℤ) (characters places : List ℕ) where
   unfolding faults
   receive_no_lock = refl
 
-  pub receive_line_length : (bad : ℕ) → (length line ≡ 2700 → ⊥) → Starts (received (Locked bad)) (EndFault.Length 0)
+  pub receive_line_length : (lock : Lock) → (lock ≡ Lost → ⊥) → (length line ≡ 2700 → ⊥) → Starts (received lock) (EndFault.Length 0)
   unfolding faults
-  receive_line_length bad n = rw (length_wrong 0 2700 line n)
+  receive_line_length (Locked bad) l n = rw (length_wrong 0 2700 line n)
+  receive_line_length Lost l n = absurd (l refl)
 
-  pub receive_characters_length : (bad : ℕ) → length line ≡ 2700 → (length characters ≡ 450 → ⊥) → Starts (received (Locked bad)) (EndFault.Length 1)
+  pub receive_characters_length : (lock : Lock) → (lock ≡ Lost → ⊥) → length line ≡ 2700 → (length characters ≡ 450 → ⊥) → Starts (received lock) (EndFault.Length 1)
   unfolding faults
-  receive_characters_length bad e n = rw (length_right 0 2700 line e, length_wrong 1 450 characters n)
+  receive_characters_length (Locked bad) l e n = rw (length_right 0 2700 line e, length_wrong 1 450 characters n)
+  receive_characters_length Lost l e n = absurd (l refl)
 
-  pub receive_places_length : (bad : ℕ) → length line ≡ 2700 → length characters ≡ 450 → (length places ≡ 22 → ⊥) → Starts (received (Locked bad)) (EndFault.Length 2)
+  pub receive_places_length : (lock : Lock) → (lock ≡ Lost → ⊥) → length line ≡ 2700 → length characters ≡ 450 → (length places ≡ 22 → ⊥) → Starts (received lock) (EndFault.Length 2)
   unfolding faults
-  receive_places_length bad e f n = rw (length_right 0 2700 line e, length_right 1 450 characters f, length_wrong 2 22 places n)
+  receive_places_length (Locked bad) l e f n = rw (length_right 0 2700 line e, length_right 1 450 characters f, length_wrong 2 22 places n)
+  receive_places_length Lost l e f n = absurd (l refl)
 
-  pub receive_no_line_symbol : (bad place : ℕ) → length line ≡ 2700 → length characters ≡ 450 → length places ≡ 22 → prefix_len is_line_symbol line ≡ place → place < length line → Starts (received (Locked bad)) (no_line_symbol place)
+  pub receive_no_line_symbol : (lock : Lock) → (lock ≡ Lost → ⊥) → (place : ℕ) → length line ≡ 2700 → length characters ≡ 450 → length places ≡ 22 → prefix_len is_line_symbol line ≡ place → place < length line → Starts (received lock) (no_line_symbol place)
   unfolding faults
-  receive_no_line_symbol bad place e f h n l = rw (length_right 0 2700 line e, length_right 1 450 characters f, length_right 2 22 places h, number_wrong is_line_symbol no_line_symbol line place n l)
+  receive_no_line_symbol (Locked bad) k place e f h n l = rw (length_right 0 2700 line e, length_right 1 450 characters f, length_right 2 22 places h, number_wrong is_line_symbol no_line_symbol line place n l)
+  receive_no_line_symbol Lost k place e f h n l = absurd (k refl)
 
-  pub receive_no_fault : (bad : ℕ) → length line ≡ 2700 → length characters ≡ 450 → length places ≡ 22 → prefix_len is_line_symbol line ≡ length line → received (Locked bad) ≡ []
+  pub receive_no_fault : (lock : Lock) → (lock ≡ Lost → ⊥) → length line ≡ 2700 → length characters ≡ 450 → length places ≡ 22 → prefix_len is_line_symbol line ≡ length line → received lock ≡ []
   unfolding faults
-  receive_no_fault bad e f h n = rw (length_right 0 2700 line e, length_right 1 450 characters f, length_right 2 22 places h, numbers_right is_line_symbol no_line_symbol line n)
+  receive_no_fault (Locked bad) l e f h n = rw (length_right 0 2700 line e, length_right 1 450 characters f, length_right 2 22 places h, numbers_right is_line_symbol no_line_symbol line n)
+  receive_no_fault Lost l e f h n = absurd (l refl)

@@ -112,15 +112,12 @@ symbols_first n cs =
     ap (λ m. packed 9 m (blocks_bits (suc n) cs)) e ∙ packed_append 9 9 (9 * n) (block_bits (block_of (take 10 cs))) (blocks_bits n (drop 10 cs)) (length_block_bits (block_of (take 10 cs)) (eleven_of (take 10 cs)))
 
 -- the nine at place k, of a list that begins with nine
-nine_first : (xs ys : List ℕ) → length xs ≡ 9 → take 9 (xs ++ ys) ≡ xs
-nine_first xs ys h = take_at xs ys 9 h
-
 nine_later : (xs ys : List ℕ) (k : ℕ) → length xs ≡ 9 → take 9 (drop (9 * suc k) (xs ++ ys)) ≡ take 9 (drop (9 * k) ys)
 nine_later xs ys k h = let e : 9 * suc k ≡ 9 + 9 * k = omega arith in ap (λ m. take 9 (drop m (xs ++ ys))) e ∙ ap (take 9) (drop_past xs ys 9 (9 * k) h)
 
 pub symbols_at : (n : ℕ) (cs : List ℕ) (k : ℕ) → k < n → take 9 (drop (9 * k) (packed 9 (9 * n) (blocks_bits n cs))) ≡ packed 9 9 (block_bits (block_of (ten_at cs k)))
 symbols_at zero cs k h = absurd (omega arith)
-symbols_at (suc n) cs zero h = ap (take 9) (symbols_first n cs) ∙ nine_first (packed 9 9 (block_bits (block_of (take 10 cs)))) (packed 9 (9 * n) (blocks_bits n (drop 10 cs))) (length_packed 9 9 (block_bits (block_of (take 10 cs))))
+symbols_at (suc n) cs zero h = ap (take 9) (symbols_first n cs) ∙ take_at (packed 9 9 (block_bits (block_of (take 10 cs)))) (packed 9 (9 * n) (blocks_bits n (drop 10 cs))) 9 (length_packed 9 9 (block_bits (block_of (take 10 cs))))
 symbols_at (suc n) cs (suc k) h =
     ap (λ t. take 9 (drop (9 * suc k) t)) (symbols_first n cs)
     ∙ nine_later (packed 9 9 (block_bits (block_of (take 10 cs)))) (packed 9 (9 * n) (blocks_bits n (drop 10 cs))) k (length_packed 9 9 (block_bits (block_of (take 10 cs))))

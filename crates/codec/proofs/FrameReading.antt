@@ -1,35 +1,22 @@
 -- The blocks of a word, read one after another.
-use Rattle.std.proofs.Common.{◌≡◌, ℕ, suc, ◌+◌, ◌-◌, ◌*◌, ◌/◌, ◌%◌, ◌^◌, ◌<◌, ◌≤◌, List, ◌++◌, length, take, drop, replicate, Some, None, Option, sym, refl, ap, ◌∙◌, subst, inl, inr, arith, length-take, below_more}
+use Rattle.std.proofs.Common.{◌≡◌, ℕ, suc, ◌+◌, ◌-◌, ◌*◌, ◌/◌, ◌%◌, ◌^◌, ◌<◌, ◌≤◌, List, length, take, drop, Some, None, Option, sym, refl, ap, ◌∙◌, subst, inl, inr, arith, length-take, below_more}
 use native.Mathlib.Nat.{div-eq_of_lt, add-mul-div_left, pow-succ', add-div_right}
 use borrow.Rule.Slice.PartMut.{put_mid}
 use Rattle.std.proofs.lemmas.Nat.{pow_pos, pow-add, one_shl}
-use Rattle.std.proofs.lemmas.List.{length-append, length-take-le, length-drop, get_or-take, get_or-drop, get_or_past, take-take, drop-take}
+use Rattle.std.proofs.lemmas.List.{get_or-take, get_or-drop, get_or_past, take-take, drop-take}
 use Rattle.std.proofs.lemmas.Slice.{take-put_mid_below, between-put_mid}
 use Rattle.std.proofs.lemmas.Bool.{cases_lt}
 use Rattle.std.specs.Option.{option_or}
-use Rattle.refusal.specs.declared.kinds.Refusal.{Refusal}
 use Rattle.blocks.specs.Bits.{unpacked}
-use Rattle.blocks.specs.Blocks.{EncodesOnly, EncodesNone, InvalidField, ReadRefused}
+use Rattle.blocks.specs.Blocks.{EncodesOnly, EncodesNone, InvalidField}
 use Rattle.blocks.specs.Faults.{block_refusal}
-use Rattle.blocks.specs.declared.faults.BlockFault.{BlockFault}
 use Rattle.codec.specs.Frames.{block_from, block_at, ten_at}
 use Rattle.codec.specs.Numbering.{TenErrors}
 use Rattle.codec.specs.Reports.{Contains, BlockTold, FrameTold}
 use Rattle.codec.specs.declared.faults.FrameFault.{FrameFault}
-use Rattle.codec.proofs.FrameSymbols.{Small, eleven_octets}
+use Rattle.codec.proofs.FrameSymbols.{Small}
 use Rattle.codec.proofs.FrameBits.{block_at_is}
-
--- one block
-
-refused : (block was : List ℕ) (why : Refusal) → length block ≡ 11 → length was ≡ 10 → ReadRefused block was why → InvalidField block why × EncodesNone block
-refused block was why h l (ReadRefused.input_length n) = absurd (n h)
-refused block was why h l (ReadRefused.output_length m n) = absurd (n l)
-refused block was why h l (ReadRefused.invalid_field m n i e) = (i, e)
-
-pub ten_errors : (k : ℕ) (bs block was ten : List ℕ) (fault : BlockFault) (found : FrameFault) → block ≡ block_from bs → length was ≡ 10 → ReadRefused block was (block_refusal fault) → ten ≡ replicate 10 257 → found ≡ record { block = k; fault = fault } → TenErrors k (block_from bs) ten found
-ten_errors k bs block was ten fault found b l r t f =
-    let both = refused (block_from bs) was (block_refusal fault) (eleven_octets bs) l (subst (λ x. ReadRefused x was (block_refusal fault)) b r) in
-    record { none = both.1; errors = t; number = ap (λ x. x.block) f; field = subst (λ x. InvalidField (block_from bs) (block_refusal x.fault)) (sym f) both.0 }
+use Rattle.codec.proofs.Turns.{length_put_mid}
 
 -- a part of a word
 
@@ -94,15 +81,10 @@ same_told invalid more k block ten e t = record {
   otherwise = λ c. t.otherwise (λ d. c (e ∙ d));
 }
 
-length_written : (xs ys : List ℕ) (k n : ℕ) → k < 45 → n ≡ 10 → length xs ≡ 450 → length ys ≡ 10 → length (put_mid (10 * k) n xs ys) ≡ 450
-length_written xs ys k n h m l t =
-    length-append (take (10 * k) xs) (ys ++ drop n (drop (10 * k) xs))
-    ∙ omega (arith, length-append ys (drop n (drop (10 * k) xs)), length-take-le (10 * k) xs (omega arith), length-drop n (drop (10 * k) xs), length-drop (10 * k) xs)
-
 -- one block more
 told_more : (word characters ten : List ℕ) (k n invalid more : ℕ) (fault later : Option FrameFault) → k < 45 → n ≡ 10 → length ten ≡ 10 → ToldOf word characters k invalid fault → ((j : ℕ) → j < k → more / 2 ^ j % 2 ≡ invalid / 2 ^ j % 2) → BlockTold more k (block_at word k) ten → more < 2 ^ (k + 1) → FirstOf word (k + 1) later → ToldOf word (put_mid (10 * k) n characters ten) (k + 1) more later
 told_more word characters ten k n invalid more fault later h m l t s b f g = record {
-  full = length_written characters ten k n h m t.full l;
+  full = length_put_mid (10 * k) n characters ten (omega (arith, h, m, t.full)) (l ∙ sym m) ∙ t.full;
   blocks = below_more (λ j. BlockTold more j (block_at word j) (ten_at (put_mid (10 * k) n characters ten) j)) k
       (λ j i. subst (BlockTold more j (block_at word j)) (sym (ten_before characters ten k n j (omega (arith, t.full)) i)) (same_told invalid more j (block_at word j) (ten_at characters j) (s j i) (t.blocks j i)))
       (subst (BlockTold more k (block_at word k)) (sym (ten_written characters ten k n (omega (arith, t.full)) l)) b);

@@ -1,5 +1,5 @@
 -- The nine symbols of a block, and the block of nine symbols.
-use Rattle.std.proofs.Common.{◌≡◌, ℕ, suc, ◌+◌, ◌-◌, ◌*◌, ◌/◌, ◌%◌, ◌^◌, ◌<◌, ◌≤◌, List, [], ◌∷◌, ◌++◌, length, get_or, take, drop, set, sym, refl, ap, ◌∙◌, inl, inr, mod-eq_of_lt, mul_comm, mul-zero, arith}
+use Rattle.std.proofs.Common.{◌≡◌, ℕ, suc, ◌+◌, ◌-◌, ◌*◌, ◌/◌, ◌%◌, ◌^◌, ◌<◌, ◌≤◌, List, [], ◌∷◌, ◌++◌, length, get_or, take, drop, set, sym, refl, ap, ◌∙◌, inl, inr, mod-eq_of_lt, mul_comm, arith}
 use native.Mathlib.Nat.{mod-one}
 use lib.Bits.{bit_and}
 use Rattle.std.proofs.lemmas.Nat.{shr_below, one_shl, and_mask, shl_whole, mod_below, pow_pos, mul-add-lt, pow-add}
@@ -94,12 +94,6 @@ High symbols i high = high ≡ 2 ^ (i - 1) * (get_or symbols i 0 % 2 ^ (9 - i))
 pub high_next : (symbols : List ℕ) (i high : ℕ) → 0 < i → i < 9 → high ≡ (bit_and (get_or symbols i 0) ((1 * 2 ^ (9 - i)) % 65536 - 1) * 2 ^ (i - 1)) % 65536 → High symbols i high
 high_next symbols i high p q e = e ∙ moved_up (get_or symbols i 0) (9 - i) (i - 1) (omega arith) (omega arith)
 
-pub high_none : (symbols : List ℕ) (i high : ℕ) → 9 ≤ i → high ≡ 0 → High symbols i high
-high_none symbols i high p e =
-    let z : 9 - i ≡ 0 = omega arith in
-    let o : get_or symbols i 0 % 1 ≡ 0 = mod-one (get_or symbols i 0) in
-    e ∙ sym (ap (λ k. 2 ^ (i - 1) * (get_or symbols i 0 % 2 ^ k)) z ∙ ap (λ x. 2 ^ (i - 1) * x) o ∙ mul-zero (2 ^ (i - 1)))
-
 pub later_octet : (symbols : List ℕ) (i high : ℕ) → length symbols ≡ 9 → Small symbols → 0 < i → i < 10 → High symbols i high → get_or symbols (i - 1) 0 / 2 ^ (10 - i) + high ≡ get_or (block_from (unpacked 9 symbols)) (1 + i) 0
 later_octet symbols i high h s p q e = elim (cases_lt i 9) [
   | inl l ↦ ap (λ x. get_or symbols (i - 1) 0 / 2 ^ (10 - i) + x) e ∙ sym (middle_octet symbols i h s p l)
@@ -110,12 +104,6 @@ later_octet symbols i high h s p q e = elim (cases_lt i 9) [
     last n =
         let z : high ≡ 0 = e ∙ ap (λ k. 2 ^ (k - 1) * (get_or symbols k 0 % 2 ^ (9 - k))) n ∙ omega (arith, mod-one (get_or symbols 9 0)) in
         ap (λ k. get_or symbols (k - 1) 0 / 2 ^ (10 - k) + high) n ∙ ap (λ x. get_or symbols 8 0 / 2 + x) z ∙ omega (arith, end_octet symbols i 8 h s q (omega arith) (omega arith))
-
--- an octet has eight bits
-pub octet_small : (symbols : List ℕ) (i high : ℕ) → Small symbols → 0 < i → i < 10 → High symbols i high → get_or symbols (i - 1) 0 / 2 ^ (10 - i) + high < 256
-octet_small symbols i high s p q e =
-    let eight : i - 1 + (9 - i) ≡ 8 = omega arith in
-    rw e (rw eight at (both_below (get_or symbols (i - 1) 0 / 2 ^ (10 - i)) (get_or symbols i 0) (i - 1) (9 - i) (high_bits symbols i s p q)))
 
 -- writing a list from its front
 

@@ -1,5 +1,5 @@
 -- The word that a frame is written into, block after block.
-use Rattle.std.proofs.Common.{◌≡◌, ℕ, zero, suc, ◌+◌, ◌-◌, ◌*◌, ◌<◌, List, [], ◌∷◌, ◌++◌, length, get_or, take, drop, set, replicate, map, sym, refl, ap, ◌∙◌, append_assoc, arith, length-set}
+use Rattle.std.proofs.Common.{◌≡◌, ℕ, zero, suc, ◌+◌, ◌-◌, ◌*◌, ◌<◌, List, ◌∷◌, ◌++◌, length, get_or, take, drop, set, replicate, map, sym, refl, ap, ◌∙◌, subst, append_assoc, arith}
 use borrow.Rule.Slice.PartMut.{put_mid}
 use Rattle.std.specs.List.{take-map, drop-map}
 use Rattle.std.proofs.lemmas.List.{length-append, length-take-le, length-drop, get_or-take, get_or-drop, set-append_right, take_at, drop_at, drop-replicate}
@@ -10,6 +10,8 @@ use Rattle.blocks.specs.Numbers.{number_of}
 use Rattle.blocks.specs.declared.character.Character.{Character}
 use Rattle.blocks.proofs.Packing.{length_packed, packed_below, take_past}
 use Rattle.code.specs.Words.{Word}
+use Rattle.code.proofs.Completion.{append_small}
+use Rattle.code.proofs.Registers.{zeros_small}
 use Rattle.codec.specs.Frames.{block_bits, ten_at, blocks_bits, message_of}
 use Rattle.codec.proofs.FrameSymbols.{Small}
 use Rattle.codec.proofs.FrameBits.{symbols_more, bits_blocks_bits, message_is}
@@ -51,46 +53,25 @@ written_more cs k n word ys h m e f =
     ∙ sym (append_assoc front ys (replicate (450 - 9 * (k + 1)) 0))
     ∙ ap (λ t. t ++ replicate (450 - 9 * (k + 1)) 0) (ap (λ t. front ++ t) f ∙ sym (symbols_more k cs))
 
-whole : (cs : List ℕ) (symbol : ℕ) (word : List ℕ) → Written cs 45 word → set word 405 symbol ≡ packed 9 405 (blocks_bits 45 cs) ++ symbol ∷ replicate 44 0
-whole cs symbol word e =
-    ap (λ w. set w 405 symbol) e
+whole : (cs : List ℕ) (symbol k : ℕ) (word : List ℕ) → k ≡ 45 → Written cs k word → set word 405 symbol ≡ packed 9 405 (blocks_bits 45 cs) ++ symbol ∷ replicate 44 0
+whole cs symbol k word done e =
+    ap (λ w. set w 405 symbol) (subst (λ n. Written cs n word) done e)
     ∙ set-append_right (packed 9 405 (blocks_bits 45 cs)) (replicate 45 0) 405 405 symbol (length_packed 9 405 (blocks_bits 45 cs)) (omega arith)
 
-pub written_message : (cs : List ℕ) (symbol : ℕ) (word : List ℕ) → symbol < 512 → Written cs 45 word → take 406 (set word 405 symbol) ≡ message_of cs symbol
-written_message cs symbol word h e =
-    ap (take 406) (whole cs symbol word e)
+pub written_message : (cs : List ℕ) (symbol k : ℕ) (word : List ℕ) → k ≡ 45 → symbol < 512 → Written cs k word → take 406 (set word 405 symbol) ≡ message_of cs symbol
+written_message cs symbol k word done h e =
+    ap (take 406) (whole cs symbol k word done e)
     ∙ take_past (packed 9 405 (blocks_bits 45 cs)) (symbol ∷ replicate 44 0) 405 1 (length_packed 9 405 (blocks_bits 45 cs))
     ∙ sym (message_is cs symbol h)
 
 -- every symbol of it is an element
 
-small_append : (xs ys : List ℕ) → Small xs → Small ys → Small (xs ++ ys)
-small_append [] ys h t i = t i
-small_append (x ∷ xs) ys h t zero = h 0
-small_append (x ∷ xs) ys h t (suc i) = small_append xs ys (λ k. h (suc k)) t i
-
-small_zeros : (n : ℕ) → Small (replicate n 0)
-small_zeros zero i = omega arith
-small_zeros (suc n) zero = omega arith
-small_zeros (suc n) (suc i) = small_zeros n i
-
 small_more : (x : ℕ) (xs : List ℕ) → x < 512 → Small xs → Small (x ∷ xs)
 small_more x xs h t zero = h
 small_more x xs h t (suc i) = t i
 
-small_set : (xs : List ℕ) (n v : ℕ) → Small xs → v < 512 → Small (set xs n v)
-small_set [] n v h l = h
-small_set (x ∷ xs) zero v h l = small_more v xs l (λ k. h (suc k))
-small_set (x ∷ xs) (suc n) v h l = small_more x (set xs n v) (h 0) (small_set xs n v (λ k. h (suc k)) l)
-
-pub zeros_word : Word (replicate 450 0)
-zeros_word = record { full = refl; small = small_zeros 450 }
-
-pub set_word : (word : List ℕ) (n v : ℕ) → Word word → v < 512 → Word (set word n v)
-set_word word n v w l = record { full = length-set word n v ∙ w.full; small = small_set word n v w.small l }
-
-pub written_word : (cs : List ℕ) (symbol : ℕ) (word : List ℕ) → symbol < 512 → Written cs 45 word → Word (set word 405 symbol)
-written_word cs symbol word h e = record {
-  full = ap length (whole cs symbol word e) ∙ length-append (packed 9 405 (blocks_bits 45 cs)) (symbol ∷ replicate 44 0) ∙ ap (λ n. n + 45) (length_packed 9 405 (blocks_bits 45 cs));
-  small = rw (whole cs symbol word e) (small_append (packed 9 405 (blocks_bits 45 cs)) (symbol ∷ replicate 44 0) (packed_below 9 405 (blocks_bits 45 cs) (bits_blocks_bits 45 cs)) (small_more symbol (replicate 44 0) h (small_zeros 44)));
+pub written_word : (cs : List ℕ) (symbol k : ℕ) (word : List ℕ) → k ≡ 45 → symbol < 512 → Written cs k word → Word (set word 405 symbol)
+written_word cs symbol k word done h e = record {
+  full = ap length (whole cs symbol k word done e) ∙ length-append (packed 9 405 (blocks_bits 45 cs)) (symbol ∷ replicate 44 0) ∙ ap (λ n. n + 45) (length_packed 9 405 (blocks_bits 45 cs));
+  small = rw (whole cs symbol k word done e) (append_small (packed 9 405 (blocks_bits 45 cs)) (symbol ∷ replicate 44 0) (packed_below 9 405 (blocks_bits 45 cs) (bits_blocks_bits 45 cs)) (small_more symbol (replicate 44 0) h (zeros_small 44)));
 }

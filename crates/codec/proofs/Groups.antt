@@ -1,7 +1,7 @@
 -- Groups of six line symbols: the three pairs of a scrambled symbol, and the symbol back. Assumes nothing.
-use Rattle.std.proofs.Common.{◌≡◌, ℕ, ◌+◌, ◌*◌, ◌/◌, ◌%◌, ◌<◌, Bool, true, false, not, ◌&&◌, T, eqb, List, [], ◌∷◌, length, get_or, set, Some, None, Option, ℤ, pos, negsuc, sym, refl, ap, ◌∙◌, arith, w8, SFits, to_z, of_z, eqb-true}
+use Rattle.std.proofs.Common.{◌≡◌, ℕ, ◌+◌, ◌*◌, ◌/◌, ◌%◌, ◌<◌, Bool, true, false, not, T, eqb, List, [], ◌∷◌, length, get_or, set, Some, None, Option, ℤ, pos, negsuc, sym, refl, ap, ◌∙◌, arith, w8, SFits, to_z, of_z, eqb-true}
 use Rattle.std.proofs.lemmas.Int.{ints, to_z-of_z}
-use borrow.Author.Tests.{eqb-false}
+use Rattle.std.proofs.lemmas.Bool.{and_parts, eqb-false, false_from_ne_true}
 use lib.Bits.{bit_xor, xor_assoc, xor_self, xor_zero_r, xor_lt}
 use lib.Signed.{le_z}
 use Rattle.std.specs.Option.{option_eq}
@@ -153,17 +153,13 @@ at_both x y e f = grind (arith, ints)
 at_self : (x : ℤ) → le_z x x ≡ true
 at_self x = grind (arith, ints)
 
-both_true : (a b : Bool) → a && b ≡ true → (a ≡ true) × (b ≡ true)
-both_true true b e = (refl, e)
-both_true false b e = let z : ◌≡◌ {A = ℕ} 0 1 = cc in absurd (omega arith)
-
 pub same_equal : (a b : List ℤ) → same a b ≡ true → a ≡ b
 same_equal [] [] e = refl
 same_equal [] (y ∷ ys) e = let z : ◌≡◌ {A = ℕ} 0 1 = cc in absurd (omega arith)
 same_equal (x ∷ xs) [] e = let z : ◌≡◌ {A = ℕ} 0 1 = cc in absurd (omega arith)
 same_equal (x ∷ xs) (y ∷ ys) e =
-    let outer = both_true _ _ e in
-    let inner = both_true _ _ outer.0 in
+    let outer = and_parts _ _ e in
+    let inner = and_parts _ _ outer.0 in
     let head = at_both x y inner.0 inner.1 in
     let tail = same_equal xs ys outer.1 in
     cc
@@ -176,11 +172,7 @@ pub same_of_equal : (a b : List ℤ) → a ≡ b → same a b ≡ true
 same_of_equal a b e = ap (same a) (sym e) ∙ same_self a
 
 pub same_of_unequal : (a b : List ℤ) → (a ≡ b → ⊥) → same a b ≡ false
-same_of_unequal a b n = go (same a b) refl
-  where
-    go : (t : Bool) → same a b ≡ t → same a b ≡ false
-    go true e = absurd (n (same_equal a b e))
-    go false e = e
+same_of_unequal a b n = false_from_ne_true _ (λ e. n (same_equal a b e))
 
 -- a group differs from that of a symbol exactly when it is erased or carries another symbol
 pub changed_test : (pair : ℕ → ℤ × ℤ) → Distinct pair → (mask : ℕ) (six : List ℤ) (symbol : Option ℕ) (v : ℕ) → mask < 512 → v < 512 → Descrambled pair mask six symbol

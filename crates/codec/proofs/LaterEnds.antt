@@ -8,7 +8,7 @@ use Rattle.codec.specs.Lines.{Near, line_group, line_from, line_frame, differing
 use Rattle.codec.specs.declared.faults.EndFault.{EndFault}
 use Rattle.codec.specs.declared.lock.Lock.{Lock}
 use Rattle.codec.specs.declared.request.Outcome.{Outcome}
-use Rattle.codec.specs.declared.request.Outcome.TheVariants.{Refused}
+use Rattle.codec.proofs.Answered.{FirstOr}
 
 pub no_later : (end : End) → Later 0 end end
 no_later end = record { arithmetic = refl; masks = λ k. ap end.mask (omega arith); code = refl }
@@ -71,8 +71,8 @@ module _ (n : ℕ) (end after : End) (l : Later n end after) where
   performs_here receiver_rest left outcome h = h
 
   either_here : (found : List EndFault) (asked left : Call) (outcome : Outcome)
-      → elim found as (λ f. Type 0) [ [] ↦ Performs after 0 asked left outcome | fault ∷ more ↦ (left ≡ asked) × (outcome ≡ Refused fault) ]
-      → elim found as (λ f. Type 0) [ [] ↦ Performs end n asked left outcome | fault ∷ more ↦ (left ≡ asked) × (outcome ≡ Refused fault) ]
+      → FirstOr (Performs after 0 asked left outcome) found left asked outcome
+      → FirstOr (Performs end n asked left outcome) found left asked outcome
   either_here [] asked left outcome h = performs_here asked left outcome h
   either_here (fault ∷ more) asked left outcome h = h
 

@@ -2,7 +2,6 @@ pub mod FrameSymbols
 pub mod FrameBits
 pub mod FrameWriting
 pub mod FrameReading
-pub mod Completing
 pub mod Carried
 pub mod Groups
 pub mod Apart

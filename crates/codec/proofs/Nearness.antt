@@ -5,14 +5,8 @@ use lib.Bits.{bit_xor}
 use Rattle.std.proofs.Math.ListN.{get_or-map}
 use Rattle.std.proofs.lemmas.List.{get_or_past, length-map}
 use Rattle.std.specs.Option.{option_eq, unwrap_or}
-use Rattle.arithmetic.specs.Laws.{Operations}
-use Rattle.refusal.specs.declared.kinds.Refusal.{Refusal}
 use Rattle.code.specs.Words.{distance, Word}
-use Rattle.code.specs.Faults.{code_refusal}
-use Rattle.code.specs.Outcomes.{Repaired, Astray, Irreparable}
-use Rattle.code.proofs.Refused.{word_astray, word_beyond}
-use Rattle.code.specs.declared.fault.CodeFault.{CodeFault}
-use Rattle.code.specs.declared.fault.CodeFault.TheVariants.{Length, SymbolTooLarge, BeyondRepair}
+use Rattle.code.specs.Outcomes.{Repaired, Astray}
 use Rattle.codec.specs.Ends.{End}
 use Rattle.codec.specs.Lines.{line_group, line_from, line_frame, same, group, differing, apart, Near, NoneNear}
 use Rattle.codec.specs.Demapping.{Descrambled, Demapped, Repairs, filled, is_changed, changed, upward}
@@ -25,35 +19,32 @@ filled_at symbols k = get_or-map (λ symbol. unwrap_or symbol 0) symbols k None
 pub length_filled : (symbols : List (Option ℕ)) → length (filled symbols) ≡ length symbols
 length_filled symbols = length-map symbols (λ symbol. unwrap_or symbol 0)
 
-descrambled_small : (pair : ℕ → ℤ × ℤ) (mask : ℕ) (six : List ℤ) (symbol : Option ℕ) → Descrambled pair mask six symbol → unwrap_or symbol 0 < 512
-descrambled_small pair mask six None erased = omega arith
-descrambled_small pair mask six (Some c) (small, read) = small
+read_small : (pair : ℕ → ℤ × ℤ) (mask : ℕ) (six : List ℤ) (symbol : Option ℕ) → Descrambled pair mask six symbol → (c : ℕ) → symbol ≡ Some c → c < 512
+read_small pair mask six None erased c e = cc
+read_small pair mask six (Some d) (small, read) c e = let same : d ≡ c = cc in omega arith
+
+-- the symbols of a line have nine bits
+pub read_nine_bits : {pair : ℕ → ℤ × ℤ} {mask : ℕ → ℕ} {line : List ℤ} {symbols : List (Option ℕ)} → Demapped pair mask line symbols → (k c : ℕ) → get_or symbols k None ≡ Some c → c < 512
+read_nine_bits {pair} {mask} {line} {symbols} demapped k c e = elim (dec_lt k 450) [
+  | yes h ↦ read_small pair (mask k) (group line k) (get_or symbols k None) (demapped.groups k h) c e
+  | no h ↦ (let past : get_or symbols k None ≡ None = get_or_past symbols k None (omega (arith, demapped.full)) in cc)
+]
+
+small_or_zero : (symbol : Option ℕ) → ((c : ℕ) → symbol ≡ Some c → c < 512) → unwrap_or symbol 0 < 512
+small_or_zero None small = omega arith
+small_or_zero (Some c) small = small c refl
 
 -- the symbols of a line, erased ones as 0, are a word
-pub filled_word : {pair : ℕ → ℤ × ℤ} {mask : ℕ → ℕ} {line : List ℤ} {symbols : List (Option ℕ)} → Demapped pair mask line symbols → Word (filled symbols)
-filled_word {pair} {mask} {line} {symbols} demapped =
-    let long : length (filled symbols) ≡ 450 = length_filled symbols ∙ demapped.full in
-    record {
-      full = long;
-      small = λ i. elim (dec_lt i 450) [
-        | yes h ↦ rw (filled_at symbols i) (descrambled_small pair (mask i) (group line i) (get_or symbols i None) (demapped.groups i h))
-        | no h ↦ let past : get_or (filled symbols) i 0 ≡ 0 = get_or_past (filled symbols) i 0 (omega (arith, long)) in omega arith
-      ];
-    }
+pub filled_word : (symbols : List (Option ℕ)) → length symbols ≡ 450 → ((k c : ℕ) → get_or symbols k None ≡ Some c → c < 512) → Word (filled symbols)
+filled_word symbols full small = record {
+  full = length_filled symbols ∙ full;
+  small = λ i. rw (filled_at symbols i) (small_or_zero (get_or symbols i None) (small i));
+}
 
 -- a symbol that differs is one that is changed
 differs_changed : (symbol : Option ℕ) (v : ℕ) → not (eqb (unwrap_or symbol 0) v) ≡ true → not (option_eq eqb symbol (Some v)) ≡ true
 differs_changed None v e = refl
 differs_changed (Some c) v e = e
-
--- a word that is not repaired is beyond repair
-pub beyond_repair : (F : Operations) (w : List ℕ) (e : CodeFault) → Word w → Irreparable F w (code_refusal e) → (e ≡ BeyondRepair) × Astray F w
-beyond_repair F w e word why = (told e (word_beyond F w (code_refusal e) word why), word_astray F w (code_refusal e) word why)
-  where
-    told : (f : CodeFault) → code_refusal f ≡ code_refusal BeyondRepair → f ≡ BeyondRepair
-    told Length q = let z : ◌≡◌ {A = ℕ} 3 7 = ap (λ (r : Refusal). r.number) q in absurd (omega arith)
-    told (SymbolTooLarge place) q = let z : ◌≡◌ {A = ℕ} 6 7 = ap (λ (r : Refusal). r.number) q in absurd (omega arith)
-    told BeyondRepair q = refl
 
 module _ (end : End) (distinct : Distinct end.pair) (small : (k : ℕ) → end.mask k < 512) (line : List ℤ) (symbols : List (Option ℕ)) (demapped : Demapped end.pair end.mask line symbols) where
   -- the groups that differ from a word's line frame are those that are changed
@@ -106,7 +97,5 @@ module _ (end : End) (distinct : Distinct end.pair) (small : (k : ℕ) → end.m
         let within = subst (λ v. apart line (line_frame end 0 v) ≤ 22) e near.within in
         omega (arith, within, apart_changed word repaired.codeword.word)
 
-    pub none_near_refused : (e : CodeFault) → Irreparable end.field w (code_refusal e) → (e ≡ BeyondRepair) × NoneNear end 0 line
-    none_near_refused e why =
-        let out = beyond_repair end.field (filled symbols) e (filled_word demapped) (subst (λ x. Irreparable end.field x (code_refusal e)) given why) in
-        (out.0, λ other near. out.1.none other near.codeword (near_distance other near))
+    pub none_near_astray : Astray end.field w → NoneNear end 0 line
+    none_near_astray astray other near = astray.none other near.codeword (subst (λ x. distance x other ≤ 22) (sym given) (near_distance other near))

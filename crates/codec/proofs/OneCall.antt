@@ -9,12 +9,12 @@ use Rattle.codec.specs.declared.faults.EndFault.{EndFault}
 use Rattle.codec.specs.declared.lock.Lock.{Lock}
 use Rattle.codec.specs.declared.request.Outcome.{Outcome}
 use Rattle.codec.specs.declared.request.Outcome.TheVariants.{Done, Refused}
-use Rattle.codec.proofs.Answered.{early}
+use Rattle.codec.proofs.Answered.{FirstOr, early}
 use Rattle.codec.proofs.LaterEnds.{no_later}
 
 -- a call that is no receive leaves the lock
 still : (X : Type 0) (found : List EndFault) (asked left : Call) (outcome : Outcome) (lock : Lock) → AllByRecursion (λ f. is_period (Refused f) ≡ false) found → (X → outcome ≡ Done)
-    → elim found as (λ f. Type 0) [ [] ↦ X | fault ∷ more ↦ (left ≡ asked) × (outcome ≡ Refused fault) ] → lock ≡ lock_after lock outcome
+    → FirstOr X found left asked outcome → lock ≡ lock_after lock outcome
 still X [] asked left outcome lock a d h = sym (ap (lock_after lock) (d h))
 still X (fault ∷ more) asked left outcome lock a d h = sym (ap (lock_after lock) h.1 ∙ rw a.0)
 

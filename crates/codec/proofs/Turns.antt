@@ -1,13 +1,13 @@
 -- One turn of the loops that write and read a line. Assumes nothing.
-use Rattle.std.proofs.Common.{◌≡◌, ℕ, zero, suc, ◌+◌, ◌*◌, ◌<◌, ◌≤◌, Bool, true, false, cond, not, ltb, List, [], ◌∷◌, ◌++◌, length, get_or, take, drop, set, Some, None, Option, ℤ, sym, refl, ap, ◌∙◌, ap₂, subst, add-zero, zero-add, mul-zero, arith, MatchOption}
-use native.Mathlib.Decide.{ℕ_discrete}
+use Rattle.std.proofs.Common.{◌≡◌, ℕ, zero, suc, ◌+◌, ◌*◌, ◌<◌, ◌≤◌, Bool, true, false, cond, not, ltb, List, [], ◌∷◌, ◌++◌, length, get_or, take, drop, set, Some, None, Option, ℤ, sym, refl, ap, ◌∙◌, ap₂, add-zero, zero-add, mul-zero, arith, MatchOption}
 use borrow.Rule.Slice.PartMut.{put_mid}
 use lib.Bits.{bit_xor}
 use Rattle.std.specs.List.{position, prefix_len}
 use Rattle.std.specs.Simd.{first_chunks}
-use Rattle.std.proofs.lemmas.List.{take_more, take_all, length-take-le, drop-drop, get_or-set_same, get_or-set_other}
+use Rattle.std.proofs.lemmas.List.{take_more, take_all, length-take-le, drop-drop, length-append, length-drop}
 use Rattle.std.proofs.lemmas.Slice.{take-put_mid}
 use Rattle.std.proofs.lemmas.List.Sums.{prefix_len-le-length}
+use Rattle.code.proofs.Filled.{filled_more}
 use Rattle.codec.specs.Lines.{line_group, line_from, group}
 use Rattle.codec.specs.Demapping.{Descrambled}
 use Rattle.codec.proofs.Groups.{length_group}
@@ -69,6 +69,12 @@ module _ (pair : ℕ → ℤ × ℤ) (mask : ℕ → ℕ) where
       → take (6 * k) line ≡ line_from pair mask 0 (take k word) → line ≡ line_from pair mask 0 word
   written_all k line word l h e = sym (take_all (6 * k) line l) ∙ e ∙ ap (line_from pair mask 0) (take_all k word h)
 
+-- a part is written, and the length stays
+pub length_put_mid : {X : Type 0} (a k : ℕ) (xs ys : List X) → a + k ≤ length xs → length ys ≡ k → length (put_mid a k xs ys) ≡ length xs
+length_put_mid a k xs ys h l =
+    length-append (take a xs) (ys ++ drop k (drop a xs))
+    ∙ omega (arith, length-append ys (drop k (drop a xs)), length-take-le a xs (omega arith), length-drop k (drop a xs), length-drop a xs)
+
 -- chunk k of the first n
 pub chunk_at : {X : Type 0} (size n : ℕ) (xs : List X) (k : ℕ) → k < n → get_or (first_chunks size n xs) k [] ≡ take size (drop (size * k) xs)
 chunk_at size zero xs k h = absurd (omega arith)
@@ -81,9 +87,4 @@ chunk_at size (suc n) xs (suc k) h =
 pub demapped_more : (pair : ℕ → ℤ × ℤ) (mask : ℕ → ℕ) (line : List ℤ) (symbols : List (Option ℕ)) (k : ℕ) (symbol : Option ℕ) → k < length symbols
     → ((i : ℕ) → i < k → Descrambled pair (mask i) (group line i) (get_or symbols i None)) → Descrambled pair (mask k) (group line k) symbol
     → (i : ℕ) → i < k + 1 → Descrambled pair (mask i) (group line i) (get_or (set symbols k symbol) i None)
-demapped_more pair mask line symbols k symbol h before here i l =
-    let P : ℕ → Type 0 = λ n. Descrambled pair (mask n) (group line n) (get_or (set symbols k symbol) n None) in
-    elim (ℕ_discrete i k) [
-      | yes e ↦ subst P (sym e) (rw (get_or-set_same symbols k symbol None h) here)
-      | no e ↦ rw (get_or-set_other symbols k i symbol None e) (before i (omega arith))
-    ]
+demapped_more pair mask line symbols k symbol h before here = filled_more (λ i. Descrambled pair (mask i) (group line i)) symbols None symbol k h before here

@@ -18,6 +18,7 @@ use Rattle.codec.specs.declared.lock.Lock.{Lock}
 use Rattle.codec.specs.declared.lock.Lock.TheVariants.{Locked, Lost}
 use Rattle.codec.specs.declared.lock.FrameOutcome.{FrameOutcome}
 use Rattle.arithmetic.specs.declared.Arithmetic.{Ghosts}
+use Rattle.codec.specs.declared.ends.Parts.{Parts}
 use Rattle.codec.specs.declared.ends.Sender.{Sender}
 use Rattle.codec.specs.declared.ends.Receiver.{Receiver}
 use Rattle.codec.specs.declared.report.Report.{Report}
@@ -149,11 +150,14 @@ content (Receive line characters places) = receive (vec_items line) (vec_items c
 content ReceiverRest = receiver_rest
 
 -- what a request or a call of an end is about, from the end's parts
+abbrev pub parts_end : {A S L : Type 0} {g : Ghosts A} → (A → Operations) → (S → ℕ → ℕ) → (L → ℕ → ℤ × ℤ) → Parts A S L g → End
+parts_end field mask pair parts = made_over (field parts.code.arithmetic) (mask parts.stream) (pair parts.line_code)
+
 abbrev pub sender_end : {A S L : Type 0} {g : Ghosts A} → (A → Operations) → (S → ℕ → ℕ) → (L → ℕ → ℤ × ℤ) → Sender A S L g → End
-sender_end field mask pair end = made_over (field end.code.arithmetic) (mask end.stream) (pair end.line_code)
+sender_end field mask pair end = parts_end field mask pair end.parts
 
 abbrev pub receiver_end : {A S L : Type 0} {g : Ghosts A} → (A → Operations) → (S → ℕ → ℕ) → (L → ℕ → ℤ × ℤ) → Receiver A S L g → End
-receiver_end field mask pair end = made_over (field end.code.arithmetic) (mask end.stream) (pair end.line_code)
+receiver_end field mask pair end = parts_end field mask pair end.parts
 
 -- the outcome of a send or a rest, and of a receive
 abbrev pub done : {X : Type 0} → Result X EndFault → Outcome

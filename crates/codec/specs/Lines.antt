@@ -1,5 +1,5 @@
 -- Line frames: what a codeword looks like on the line, and how far apart two lines are. Assumes nothing.
-use Rattle.std.specs.Prelude.{◌≡◌, ℕ, zero, suc, ◌+◌, ◌-◌, ◌*◌, ◌≤◌, Bool, true, false, cond, ◌&&◌, List, [], ◌∷◌, ◌++◌, length, take, drop, replicate, ℤ, bit_xor, int_le}
+use Rattle.std.specs.Prelude.{ℕ, zero, suc, ◌+◌, ◌-◌, ◌*◌, ◌≤◌, Bool, true, false, cond, ◌&&◌, List, [], ◌∷◌, ◌++◌, length, take, drop, replicate, ℤ, bit_xor, int_le}
 use Rattle.blocks.specs.Bits.{bits, packed}
 use Rattle.code.specs.Words.{Codeword}
 use Rattle.codec.specs.Ends.{End}
@@ -44,10 +44,6 @@ differing a b = unequal 0 450 a b
 -- how many groups two lines are apart
 abbrev pub apart : List ℤ → List ℤ → ℕ
 apart a b = length (differing a b)
-
--- a period uses up 450 masks: the masks still to come after it, by those before it
-abbrev pub PeriodUsed : (ℕ → ℕ) → (ℕ → ℕ) → Type 0
-PeriodUsed before after = (k : ℕ) → after k ≡ before (450 + k)
 
 -- places padded with 450 to 22
 unfoldable pub padded : List ℕ → List ℕ

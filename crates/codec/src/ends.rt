@@ -1,21 +1,26 @@
-//! The two ends of a link.
+//! The two ends of a link, and what both are made over.
 use crate::lock::Lock;
 use arithmetic::Arithmetic;
 use code::Code;
 
-/// The end that sends: an arithmetic, a stream of masks and a line code.
+/// What an end is made over: the code over an arithmetic, a stream of masks and a line code.
+// Made in place by each end: a function that answers it would move the code's tables once more.
 #[derive(Drop)]
-pub struct Sender<A: Arithmetic, S, L> {
+pub(crate) struct Parts<A: Arithmetic, S, L> {
     pub(crate) code: Code<A>,
     pub(crate) stream: S,
     pub(crate) line_code: L,
 }
 
+/// The end that sends.
+#[derive(Drop)]
+pub struct Sender<A: Arithmetic, S, L> {
+    pub(crate) parts: Parts<A, S, L>,
+}
+
 /// The end that receives. Its stream is that of the far end's role.
 #[derive(Drop)]
 pub struct Receiver<A: Arithmetic, S, L> {
-    pub(crate) code: Code<A>,
-    pub(crate) stream: S,
-    pub(crate) line_code: L,
+    pub(crate) parts: Parts<A, S, L>,
     pub(crate) lock: Lock,
 }

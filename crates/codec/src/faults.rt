@@ -30,6 +30,7 @@ pub enum EndFault {
     /// The receiver has lost lock.
     NoLock,
     /// The buffer of this number has the wrong length.
+    // A number and no name for each buffer: it is the place that the refusal tells, counted over the buffers of the call that was made.
     Length { buffer: usize },
     /// The management symbol is above 511.
     ManagementSymbol,
@@ -38,6 +39,7 @@ pub enum EndFault {
     Code { fault: CodeFault },
 }
 
+// A From of the pair: a block's fault alone does not know its block, and faults go from layer to layer by From.
 impl From<(usize, BlockFault)> for FrameFault {
     ghost from_gives = { λ x y. y ≡ record { block = x.0; fault = x.1 } };
 
@@ -108,6 +110,7 @@ impl Fault for EndFault {
     }
 }
 
+// By hand: `thiserror` would print the same, without a contract for what is printed.
 impl fmt::Display for LineFault {
     ghost use Rattle.std.specs.Prelude.{Some};
     ghost use Rattle.codec.specs.Texts.{line_fault_text};

@@ -1,8 +1,8 @@
 //! Frames: 45 blocks and the management symbol as code symbols, and back.
-ghost use Rattle.std.specs.Prelude.{◌≡◌, ℕ, ◌+◌, ◌<◌, length, map, take, slice_index};
+ghost use Rattle.std.specs.Prelude.{◌≡◌, ℕ, ◌+◌, ◌-◌, ◌*◌, ◌%◌, ◌^◌, ◌<◌, length, map, take, slice_index};
 ghost use Rattle.blocks.specs.Bits.{packed, unpacked};
 ghost use Rattle.blocks.specs.Numbers.{number_of};
-ghost use Rattle.code.specs.Words.{Word, Codeword};
+ghost use Rattle.code.specs.Words.{Codeword};
 ghost use Rattle.codec.specs.Frames.{block_bits, block_from, message_of};
 ghost use Rattle.codec.specs.Reports.{FrameTold};
 ghost use Rattle.codec.specs.Numbering.{TenTold};
@@ -11,10 +11,11 @@ use crate::faults::FrameFault;
 use crate::report::BlockReport;
 use arithmetic::Arithmetic;
 use blocks::{Character, encode, read_block};
-use code::Code;
+use code::{Code, Word};
 use std::array;
 
 /// The number of the error character.
+// A number and no Character: buffers of callers are filled with it, which are of numbers.
 pub(crate) const ERROR: u16 = 257;
 
 /// Symbol j of the nine that hold a block's 81 bits: the end of one octet and the start of the next.
@@ -39,36 +40,38 @@ fn symbols_of(block: &[u8; 11]) -> [u16; 9]
     array::from_fn(|j| symbol_at(block, j))
 }
 
-/// The 406 symbols of a frame, with zeros for the parity.
-pub(crate) fn frame_symbols(characters: &[Character; 450], symbol: u16) -> [u16; 450]
-    requires nine_bits { symbol < 512 }
-    ensures message { take 406 result ≡ message_of (map number_of characters.now) symbol }
-    ensures word { Word result }
-{
-    let mut word = [0u16; 450];
-    let (tens, _) = characters.as_chunks::<10>();
-    // By index: `as_chunks_mut` says nothing of what the slice ends as.
-    for (k, ten) in tens.iter().enumerate() {
-        word[9 * k..9 * k + 9].copy_from_slice(&symbols_of(&encode(ten)));
-    }
-    word[405] = symbol;
-    word
+/// What a frame carries: 450 characters, and a management symbol of nine bits.
+#[derive(Clone, Copy)]
+pub(crate) struct Frame {
+    pub(crate) characters: [Character; 450],
+    pub(crate) symbol: u16,
+    ghost nine_bits: { symbol < 512 },
 }
 
-/// The codeword that carries characters and a management symbol.
-pub(crate) fn codeword_of<A: Arithmetic>(
-    code: &Code<A>,
-    characters: &[Character; 450],
-    symbol: u16,
-) -> [u16; 450]
-    requires nine_bits { symbol < 512 }
-    ensures carries { take 406 result ≡ message_of (map number_of characters.now) symbol }
-    ensures codeword { Codeword (A.field code.now.arithmetic) result }
-{
-    let mut word = frame_symbols(characters, symbol);
-    // A word of elements is never refused: `?` would hand on a fault that cannot occur.
-    let _ = code.complete(&mut word);
-    word
+impl Frame {
+    /// The 406 symbols of the frame, with zeros for the parity.
+    pub(crate) fn word(&self) -> Word
+        ensures { take 406 result.symbols ≡ message_of (map number_of self.now.characters) self.now.symbol }
+    {
+        let mut symbols = [0u16; 450];
+        let (tens, _) = self.characters.as_chunks::<10>();
+        // By index: `as_chunks_mut` says nothing of what the slice ends as.
+        for (k, ten) in tens.iter().enumerate() {
+            symbols[9 * k..9 * k + 9].copy_from_slice(&symbols_of(&encode(ten)));
+        }
+        symbols[405] = self.symbol;
+        Word { symbols }
+    }
+
+    /// The codeword that carries the frame.
+    pub(crate) fn codeword<A: Arithmetic>(&self, code: &Code<A>) -> Word
+        ensures carries { take 406 result.symbols ≡ message_of (map number_of self.now.characters) self.now.symbol }
+        ensures codeword { Codeword (A.field code.now.arithmetic) result.symbols }
+    {
+        let mut word = self.word();
+        code.encode(&mut word);
+        word
+    }
 }
 
 /// A block's 81 bits as nine symbols.
@@ -80,21 +83,28 @@ struct PackedBlock<'a> {
 }
 
 impl PackedBlock<'_> {
+    /// What symbol i adds to octet i of the payload: its low bits, as the octet's high ones; nothing to the last octet.
+    fn high_bits(&self, i: usize) -> u16
+        requires after_the_first { 0 < i }
+        requires one_of_ten { i < 10 }
+        ensures { result ≡ 2 ^ (i - 1) * (slice_index self.now.symbols.now i % 2 ^ (9 - i)) }
+    {
+        if i == 9 {
+            return 0;
+        }
+        (self.symbols[i] & ((1 << (9 - i)) - 1)) << (i - 1)
+    }
+
     /// Octet i of the payload: the end of one symbol and the start of the next.
     fn payload_octet(&self, i: usize) -> u8
         requires one_of_ten { i < 10 }
         ensures { result ≡ slice_index (block_from (unpacked 9 self.now.symbols.now)) (1 + i) }
     {
-        let symbols = self.symbols;
         if i == 0 {
-            return (symbols[0] >> 1) as u8;
+            return (self.symbols[0] >> 1) as u8;
         }
-        let low = symbols[i - 1] >> (10 - i);
-        let high = if i < 9 {
-            (symbols[i] & ((1 << (9 - i)) - 1)) << (i - 1)
-        } else {
-            0
-        };
+        let low = self.symbols[i - 1] >> (10 - i);
+        let high = self.high_bits(i);
         (low + high) as u8
     }
 
@@ -134,16 +144,12 @@ fn read_ten(k: usize, packed: PackedBlock, ten: &mut [u16]) -> Result<(), FrameF
 }
 
 /// Reads the blocks of a word one after another, each into its own ten characters.
-pub(crate) fn read_frame(word: &[u16; 450], characters: &mut [u16]) -> BlockReport
-    // No type for words, as in `write_line`.
-    requires word { Word word.now }
-    // A length: `check_receive` has found it, and `as_mut_array` after that would need an arm that cannot occur.
-    requires full { length characters.old ≡ 450 }
-    ensures { FrameTold word.now characters.new result.invalid result.fault }
+pub(crate) fn read_frame(word: &Word, characters: &mut [u16; 450]) -> BlockReport
+    ensures { FrameTold word.now.symbols characters.new result.invalid result.fault }
 {
     let mut invalid = 0u64;
     let mut fault = None;
-    let (nines, _) = word[..405].as_chunks::<9>();
+    let (nines, _) = word.symbols[..405].as_chunks::<9>();
     // The characters by index: `as_chunks_mut` says nothing of what the slice ends as.
     for (k, symbols) in nines.iter().enumerate() {
         let packed = PackedBlock { symbols };

@@ -1,27 +1,23 @@
 //! Frames worked out by hand.
-ghost use Rattle.std.specs.Prelude.{IfOk};
-ghost use Rattle.code.specs.Words.{Word};
-
-use crate::frame::{frame_symbols, read_frame};
+use crate::frame::{Frame, read_frame};
 use blocks::{BlockFault, parse};
+use code::Word;
 use std::test::Fail;
 
-/// The symbols of 450 characters and a management symbol.
-fn symbols(characters: &[u16; 450], symbol: u16) -> Result<[u16; 450], Fail>
-    ensures { IfOk result (λ word. Word word) }
-{
+/// The word of 450 characters and a management symbol.
+fn word(characters: &[u16; 450], symbol: u16) -> Result<Word, Fail> {
     if symbol >= 512 {
         return Err(Fail::new("no frame"));
     }
     match parse(characters) {
-        Ok(characters) => Ok(frame_symbols(&characters, symbol)),
+        Ok(characters) => Ok(Frame { characters, symbol }.word()),
         Err(_) => Err(Fail::new("no character")),
     }
 }
 
 #[test]
 fn zeros_stay_zeros(rt: HostRuntime) -> Result<(), Fail> {
-    assert_eq!(rt; symbols(&[0; 450], 0)?, [0; 450]);
+    assert_eq!(rt; word(&[0; 450], 0)?.symbols, [0; 450]);
     Ok(())
 }
 
@@ -30,11 +26,11 @@ fn header_and_octets_share_symbols(rt: HostRuntime) -> Result<(), Fail> {
     let mut characters = [0u16; 450];
     characters[9] = 257;
     characters[449] = 255;
-    let word = symbols(&characters, 511)?;
-    assert_eq!(rt; word[0], 19);
-    assert_eq!(rt; word[1], 0);
-    assert_eq!(rt; word[404], 510);
-    assert_eq!(rt; word[405], 511);
+    let Word { symbols } = word(&characters, 511)?;
+    assert_eq!(rt; symbols[0], 19);
+    assert_eq!(rt; symbols[1], 0);
+    assert_eq!(rt; symbols[404], 510);
+    assert_eq!(rt; symbols[405], 511);
     Ok(())
 }
 
@@ -46,7 +42,7 @@ fn mixed_frame_comes_back(rt: HostRuntime) -> Result<(), Fail> {
     sent[19] = 257;
     sent[20] = 261;
     sent[449] = 256;
-    let word = symbols(&sent, 300)?;
+    let word = word(&sent, 300)?;
     let mut back = [0u16; 450];
     let report = read_frame(&word, &mut back);
     assert_eq!(rt; back, sent);
@@ -57,9 +53,10 @@ fn mixed_frame_comes_back(rt: HostRuntime) -> Result<(), Fail> {
 
 #[test]
 fn invalid_blocks_are_errors(rt: HostRuntime) -> Result<(), Fail> {
-    let mut word = [0u16; 450];
-    word[63] = 51;
-    word[396] = 21;
+    let mut symbols = [0u16; 450];
+    symbols[63] = 51;
+    symbols[396] = 21;
+    let word = Word::try_from(symbols.as_slice())?;
     let mut back = [0u16; 450];
     let report = read_frame(&word, &mut back);
     assert_eq!(rt; (back[69], back[80], back[439]), (0, 0, 0));

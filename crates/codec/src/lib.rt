@@ -1,5 +1,6 @@
 //! The line codec: frames, ends and exchanges, with the calls of the layers below.
-//! Calls on ends and blocks take numbers and hand them out, since callers have such and the refusals speak of them.
+//! Calls on ends take numbers and hand them out, as `write_block` and `read_block` do, since callers have such and the refusals
+//! speak of them.
 #![tactic(auto)]
 
 mod checks;
@@ -13,6 +14,7 @@ mod line;
 #[cfg(test)]
 mod line_tests;
 mod lock;
+mod received;
 mod receiver;
 mod repair;
 mod report;

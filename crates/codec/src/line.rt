@@ -1,12 +1,17 @@
 //! Lines: codewords written as 2,700 line symbols, and line symbols read as code symbols.
 ghost use Rattle.std.specs.Prelude.{◌≡◌, ◌<◌, length, MatchResult, not, position};
 ghost use Rattle.std.specs.List.{prefix_len};
-ghost use Rattle.code.specs.Words.{Word};
 ghost use Rattle.lines.specs.LineCodes.{is_line_symbol};
-ghost use Rattle.codec.specs.Lines.{line_group, line_from, PeriodUsed};
+ghost use Rattle.codec.specs.Calls.{parts_end};
+ghost use Rattle.codec.specs.Ends.{Later};
+ghost use Rattle.codec.specs.Lines.{line_group, line_frame};
 ghost use Rattle.codec.specs.Demapping.{GroupRead, Descrambled, Demapped};
 
+use crate::ends::Parts;
 use crate::faults::LineFault;
+use crate::received::Received;
+use arithmetic::Arithmetic;
+use code::Word;
 use lines::{LineCode, Stream, Symbol};
 
 /// The place of the first number that is no line symbol.
@@ -56,49 +61,54 @@ fn descramble<L: LineCode>(line_code: &L, mask: u16, group: &[i8; 6]) -> Option<
     Some(read_group(line_code, group)? ^ mask)
 }
 
-/// Writes the line frame of a word, and uses up a period's masks.
-pub(crate) fn write_line<S: Stream, L: LineCode>(
-    stream: &mut S,
-    line_code: &L,
-    word: &[u16; 450],
-    line: &mut [i8],
-)
-    // No type for words: it would be made anew after each call of the code, which works on slices.
-    requires word { Word word.now }
-    // A length: `check_send` has found it, and `as_mut_array` after that would need an arm that cannot occur.
-    requires full { length line.old ≡ 2700 }
-    ensures written { line.new ≡ line_from (L.pair line_code.now) (S.mask stream.old) 0 word.now }
-    ensures masks_used { PeriodUsed (S.mask stream.old) (S.mask stream.new) }
-{
-    for (k, symbol) in word.iter().enumerate() {
-        let mask = stream.next();
-        write_group(line_code, *symbol ^ mask, &mut line[6 * k..6 * k + 6]);
+// Each clause names the members of the parts once: a trait for that, as the ends have, would name each method twice.
+impl<A: Arithmetic, S: Stream, L: LineCode> Parts<A, S, L> {
+    /// Writes the line frame of a word, and uses up a period's masks.
+    pub(crate) fn write_line(&mut self, word: &Word, line: &mut [i8; 2700])
+        ensures written { line.new ≡ line_frame (parts_end A.field S.mask L.pair self.old) 0 word.now.symbols }
+        ensures stands_later { let end = parts_end A.field S.mask L.pair in Later 1 (end self.old) (end self.new) }
+    {
+        let Parts {
+            stream,
+            line_code,
+            ..
+        } = self;
+        // The groups by index: tried as `line.chunks_exact_mut(6).zip(..)`, of which a proof knows the length
+        // alone, and nothing of what is written.
+        for (k, symbol) in word.symbols.iter().enumerate() {
+            let mask = stream.next();
+            write_group(line_code, *symbol ^ mask, &mut line[6 * k..6 * k + 6]);
+        }
     }
-}
 
-/// Reads a line group by group, and uses up a period's masks.
-pub(crate) fn read_line<S: Stream, L: LineCode>(
-    stream: &mut S,
-    line_code: &L,
-    line: &[i8; 2700],
-) -> [Option<u16>; 450]
-    ensures demapped { Demapped (L.pair line_code.now) (S.mask stream.old) line.now result }
-    ensures masks_used { PeriodUsed (S.mask stream.old) (S.mask stream.new) }
-{
-    let (groups, _) = line.as_chunks::<6>();
-    let mut symbols = [None; 450];
-    for (k, group) in groups.iter().enumerate() {
-        let mask = stream.next();
-        symbols[k] = descramble(line_code, mask, group);
+    /// Reads a line group by group, and uses up a period's masks.
+    pub(crate) fn read_line(&mut self, line: &[i8; 2700]) -> Received
+        ensures demapped { let end = parts_end A.field S.mask L.pair self.old in Demapped end.pair end.mask line.now result.symbols }
+        ensures stands_later { let end = parts_end A.field S.mask L.pair in Later 1 (end self.old) (end self.new) }
+    {
+        let Parts {
+            stream,
+            line_code,
+            ..
+        } = self;
+        let (groups, _) = line.as_chunks::<6>();
+        let mut symbols = [None; 450];
+        // By index: tried as `array::from_fn`, whose closure takes masks from the stream, and the proof didn't close.
+        for (k, group) in groups.iter().enumerate() {
+            let mask = stream.next();
+            symbols[k] = descramble(line_code, mask, group);
+        }
+        Received { symbols }
     }
-    symbols
-}
 
-/// Uses up a period's masks.
-pub(crate) fn pass_masks<S: Stream>(stream: &mut S)
-    ensures masks_used { PeriodUsed (S.mask stream.old) (S.mask stream.new) }
-{
-    for _k in 0..450usize {
-        let _ = stream.next();
+    /// Uses up a period's masks.
+    pub(crate) fn pass_masks(&mut self)
+        ensures stands_later { let end = parts_end A.field S.mask L.pair in Later 1 (end self.old) (end self.new) }
+    {
+        let stream = &mut self.stream;
+        for _k in 0..450usize {
+            // Each mask is dropped, and no Result is; the number counts them, and is no index.
+            let _ = stream.next();
+        }
     }
 }

@@ -2,10 +2,9 @@
 ghost use Rattle.std.specs.Prelude.{◌≡◌, ◌+◌, [], ◌∷◌, length, slice_index};
 ghost use Rattle.std.proofs.Common.{rules};
 
-use crate::line::{read_line, write_line};
-use crate::repair::{fill_erasures, repair_line};
+use crate::ends::Parts;
 use arithmetic::Tabled;
-use code::{Code, CodeFault};
+use code::{BeyondRepair, Code, Word};
 use lines::{Ring, Stream};
 use std::array;
 use std::test::Fail;
@@ -13,6 +12,7 @@ use std::test::Fail;
 /// The first two masks of a master at state 1, then zeros.
 #[derive(Clone, Copy)]
 struct Started {
+    // How many masks were taken, 2 at most.
     given: u8,
 }
 
@@ -36,19 +36,25 @@ impl Stream for Started {
     }
 }
 
+fn parts_at_start() -> Parts<Tabled, Started, Ring> {
+    Parts {
+        code: Code::new(Tabled),
+        stream: Started { given: 0 },
+        line_code: Ring,
+    }
+}
+
 // The codeword of a message, and its line frame.
-fn written(code: &Code<Tabled>, word: &mut [u16; 450], line: &mut [i8; 2700]) -> Result<(), Fail> {
-    let Ok(()) = code.complete(word) else {
-        return Err(Fail::new("no codeword"));
-    };
-    write_line(&mut Started { given: 0 }, &Ring, word, line);
-    Ok(())
+fn written(symbols: &[u16; 450], line: &mut [i8; 2700]) -> Result<Word, Fail> {
+    let mut parts = parts_at_start();
+    let mut word = Word::try_from(symbols.as_slice())?;
+    parts.code.encode(&mut word);
+    parts.write_line(&word, line);
+    Ok(word)
 }
 
 // Changes one symbol in each of the groups 0, 20, .. 420, and makes the first pair of group 0 two zeros.
-fn damage(line: &mut [i8])
-    requires { length line.old ≡ 2700 }
-{
+fn damage(line: &mut [i8; 2700]) {
     for twenty in line.chunks_exact_mut(120).take(22) {
         twenty[0] = if twenty[0] == 0 { 1 } else { 0 };
     }
@@ -57,9 +63,7 @@ fn damage(line: &mut [i8])
 }
 
 // Makes the first pair of the groups 0, 2, .. 44 two zeros.
-fn silence(line: &mut [i8])
-    requires { length line.old ≡ 2700 }
-{
+fn silence(line: &mut [i8; 2700]) {
     for two in line.chunks_exact_mut(12).take(23) {
         two[0] = 0;
         two[1] = 0;
@@ -68,11 +72,9 @@ fn silence(line: &mut [i8])
 
 #[test]
 fn zeros_are_written_as_masks(rt: HostRuntime) -> Result<(), Fail> {
-    let code = Code::new(Tabled);
-    let mut word = [0u16; 450];
     let mut line = [0i8; 2700];
-    written(&code, &mut word, &mut line)?;
-    assert_eq!(rt; word, [0; 450]);
+    let word = written(&[0; 450], &mut line)?;
+    assert_eq!(rt; word.symbols, [0; 450]);
     let mut start = [0i8; 12];
     start.copy_from_slice(&line[..12]);
     assert_eq!(rt; start, [-1, 0, 0, 1, 0, -1, -1, -1, -1, 0, -1, 1]);
@@ -81,21 +83,20 @@ fn zeros_are_written_as_masks(rt: HostRuntime) -> Result<(), Fail> {
 
 #[test]
 fn silence_is_unread(rt: HostRuntime) {
-    let symbols = read_line(&mut Started { given: 0 }, &Ring, &[0i8; 2700]);
-    assert_eq!(rt; symbols, [None; 450]);
+    let received = parts_at_start().read_line(&[0i8; 2700]);
+    assert_eq!(rt; received.symbols, [None; 450]);
 }
 
 #[test]
 fn damaged_groups_are_mended(rt: HostRuntime) -> Result<(), Fail> {
-    let code = Code::new(Tabled);
-    let mut word = [0u16; 450];
-    for (k, symbol) in word[..406].iter_mut().enumerate() {
+    let mut message = [0u16; 450];
+    for (k, symbol) in message[..406].iter_mut().enumerate() {
         *symbol = (k * 7 % 512) as u16;
     }
     let mut line = [0i8; 2700];
-    written(&code, &mut word, &mut line)?;
+    let word = written(&message, &mut line)?;
     damage(&mut line);
-    let Ok(repaired) = repair_line(&code, &mut Started { given: 0 }, &Ring, &line) else {
+    let Ok(repaired) = parts_at_start().repair_line(&line) else {
         return Err(Fail::new("not repaired"));
     };
     assert_eq!(rt; repaired.word, word);
@@ -106,15 +107,13 @@ fn damaged_groups_are_mended(rt: HostRuntime) -> Result<(), Fail> {
 
 #[test]
 fn unread_groups_count(rt: HostRuntime) -> Result<(), Fail> {
-    let code = Code::new(Tabled);
-    let mut word = [0u16; 450];
     let mut line = [0i8; 2700];
-    written(&code, &mut word, &mut line)?;
+    let word = written(&[0; 450], &mut line)?;
     silence(&mut line);
-    let symbols = read_line(&mut Started { given: 0 }, &Ring, &line);
-    assert_eq!(rt; fill_erasures(&symbols), word);
-    match repair_line(&code, &mut Started { given: 0 }, &Ring, &line) {
-        Err(CodeFault::BeyondRepair) => Ok(()),
-        _ => Err(Fail::new("repaired")),
+    let received = parts_at_start().read_line(&line);
+    assert_eq!(rt; received.fill_erasures(), word);
+    match parts_at_start().repair_line(&line) {
+        Err(BeyondRepair) => Ok(()),
+        Ok(_) => Err(Fail::new("repaired")),
     }
 }

@@ -14,6 +14,7 @@ pub enum Lock {
 }
 
 /// What became of a frame.
+// Two cases and no Result: they are what the lock is moved by, in one match with it.
 #[derive(Clone, Copy, PartialEq, Eq, Debug)]
 pub enum FrameOutcome {
     Accepted,

@@ -5,16 +5,16 @@ ghost use Rattle.codec.specs.Ends.{End, LawfulEnd, made_over, Later};
 ghost use Rattle.codec.specs.Locks.{new_lock};
 ghost use Rattle.codec.specs.declared.lock.Lock.{Lock};
 
-use crate::checks::{check_lock, check_receive};
-use crate::ends::Receiver;
+use crate::checks::{array_of, check_lock};
+use crate::ends::{Parts, Receiver};
 use crate::faults::EndFault;
 use crate::frame::{ERROR, read_frame};
-use crate::line::pass_masks;
+use crate::line::check_line;
 use crate::lock::{FrameOutcome, Lock};
-use crate::repair::{NO_PLACE, repair_line, write_places};
+use crate::repair::{NO_PLACE, write_places};
 use crate::report::Report;
 use arithmetic::Arithmetic;
-use code::Code;
+use code::{Code, CodeFault};
 use lines::{LineCode, Stream};
 
 /// An end that receives.
@@ -51,9 +51,11 @@ impl<A: Arithmetic, S: Stream, L: LineCode> Receiver<A, S, L> {
         ensures has_lock { result.lock ≡ new_lock }
     {
         Receiver {
-            code: Code::new(arithmetic),
-            stream,
-            line_code,
+            parts: Parts {
+                code: Code::new(arithmetic),
+                stream,
+                line_code,
+            },
             lock: Lock::Locked { bad: 0 },
         }
     }
@@ -64,7 +66,7 @@ impl<A: Arithmetic, S: Stream, L: LineCode> Receiving for Receiver<A, S, L> {
 
     ghost lock = { λ r. r.lock };
 
-    ghost lawful = { λ r. record { field = A.lawful r.code.arithmetic; masks = S.bounded r.stream; pairs = L.distinct r.line_code } };
+    ghost lawful = { λ r. record { field = A.lawful r.parts.code.arithmetic; masks = S.bounded r.parts.stream; pairs = L.distinct r.parts.line_code } };
 
     fn receive(
         &mut self,
@@ -72,31 +74,39 @@ impl<A: Arithmetic, S: Stream, L: LineCode> Receiving for Receiver<A, S, L> {
         characters: &mut [u16],
         places: &mut [u16],
     ) -> Result<Report, EndFault> {
-        let line = check_receive(self.lock, line, characters, places)?;
-        match repair_line(&self.code, &mut self.stream, &self.line_code, line) {
+        check_lock(self.lock)?;
+        let line = array_of(line, 0)?;
+        let characters = characters
+            .as_mut_array::<450>()
+            .ok_or(EndFault::Length { buffer: 1 })?;
+        let places = places
+            .as_mut_array::<22>()
+            .ok_or(EndFault::Length { buffer: 2 })?;
+        check_line(line)?;
+        match self.parts.repair_line(line) {
             Ok(repaired) => {
                 self.lock.note(FrameOutcome::Accepted);
                 write_places(&repaired.places, places);
                 let told = read_frame(&repaired.word, characters);
                 Ok(Report {
-                    symbol: repaired.word[405],
+                    symbol: repaired.word.symbols[405],
                     places: repaired.places.len(),
                     invalid: told.invalid,
                     fault: told.fault,
                 })
             }
-            Err(fault) => {
+            Err(beyond) => {
                 self.lock.note(FrameOutcome::BeyondRepair);
                 characters.fill(ERROR);
                 places.fill(NO_PLACE);
-                Err(EndFault::from(fault))
+                Err(EndFault::from(CodeFault::from(beyond)))
             }
         }
     }
 
     fn rest(&mut self) -> Result<(), EndFault> {
         check_lock(self.lock)?;
-        pass_masks(&mut self.stream);
+        self.parts.pass_masks();
         Ok(())
     }
 }

@@ -24,7 +24,8 @@ pub enum Request {
     ReceiverRest,
 }
 
-/// How a call came out. Option<Result<Option<Report>, EndFault>> would be no plainer: two of its cases would have no name.
+/// How a call came out.
+// No Option<Result<Option<Report>, EndFault>>: two of its cases would have no name.
 #[derive(Clone, Copy, PartialEq, Eq, Debug)]
 pub enum Outcome {
     Unanswered,
@@ -46,6 +47,7 @@ impl From<Result<(), EndFault>> for Outcome {
 }
 
 /// The outcome of a receive.
+// Two conversions and no generic one: what an answer holds decides the case.
 impl From<Result<Report, EndFault>> for Outcome {
     ghost from_gives = { λ x y. y ≡ accepted x };
 

@@ -4,11 +4,9 @@ ghost use Rattle.codec.specs.Calls.{Answers, send as sent, sender_rest, done, pe
 ghost use Rattle.codec.specs.Ends.{End, made_over, Later};
 ghost use Rattle.codec.specs.Locks.{new_lock};
 
-use crate::checks::{check_rest, check_send};
-use crate::ends::Sender;
+use crate::checks::{array_of, check_frame};
+use crate::ends::{Parts, Sender};
 use crate::faults::EndFault;
-use crate::frame::codeword_of;
-use crate::line::{pass_masks, write_line};
 use arithmetic::Arithmetic;
 use code::Code;
 use lines::{LineCode, Stream};
@@ -35,9 +33,11 @@ impl<A: Arithmetic, S: Stream, L: LineCode> Sender<A, S, L> {
         ensures stands_new { sender_end A.field S.mask L.pair result ≡ made_over (A.field arithmetic) (S.mask stream) (L.pair line_code) }
     {
         Sender {
-            code: Code::new(arithmetic),
-            stream,
-            line_code,
+            parts: Parts {
+                code: Code::new(arithmetic),
+                stream,
+                line_code,
+            },
         }
     }
 }
@@ -46,16 +46,22 @@ impl<A: Arithmetic, S: Stream, L: LineCode> Sending for Sender<A, S, L> {
     ghost end = { sender_end A.field S.mask L.pair };
 
     fn send(&mut self, characters: &[u16], symbol: u16, line: &mut [i8]) -> Result<(), EndFault> {
-        let characters = check_send(characters, symbol, line)?;
-        let word = codeword_of(&self.code, &characters, symbol);
-        write_line(&mut self.stream, &self.line_code, &word, line);
+        let numbers = array_of(characters, 0)?;
+        let line = line
+            .as_mut_array::<2700>()
+            .ok_or(EndFault::Length { buffer: 1 })?;
+        let frame = check_frame(numbers, symbol)?;
+        let word = frame.codeword(&self.parts.code);
+        self.parts.write_line(&word, line);
         Ok(())
     }
 
     fn rest(&mut self, line: &mut [i8]) -> Result<(), EndFault> {
-        check_rest(line)?;
+        let line = line
+            .as_mut_array::<2700>()
+            .ok_or(EndFault::Length { buffer: 0 })?;
         line.fill(0);
-        pass_masks(&mut self.stream);
+        self.parts.pass_masks();
         Ok(())
     }
 }

@@ -14,22 +14,21 @@ nine_at word chunks k full e h =
 
 pub invariant_of-packed : goal.invariant_of-packed
 invariant_of-packed c =
-    let word = c.args.word.now in
+    let word = c.args.word.now.symbols in
     let k = c.loop-k.k in
-    let within : k < 45 = omega (arith, c.as_chunks.ensures.front_len, c.loop-k-test.true, length-take-le 405 word (omega (arith, c.told-word))) in
-    let part = nine_at word c.as_chunks.result.0.now k c.told-word c.as_chunks.ensures.front within in
+    let within : k < 45 = omega (arith, c.as_chunks.ensures.front_len, c.loop-k-test.true, length-take-le 405 word (omega (arith, c.args.word.now.elements.full))) in
+    let part = nine_at word c.as_chunks.result.0.now k c.args.word.now.elements.full c.as_chunks.ensures.front within in
     record {
-      nine = rw part (length-take-le 9 (drop (9 * k) word) (omega (arith, length-drop (9 * k) word, c.told-word)));
-      small = rw part (reading.part_small word (9 * k) 9 c.requires.word.small);
+      nine = rw part (length-take-le 9 (drop (9 * k) word) (omega (arith, length-drop (9 * k) word, c.args.word.now.elements.full)));
+      small = rw part (reading.part_small word (9 * k) 9 c.args.word.now.elements.small);
     }
 
 pub loop-k-preserved : goal.loop-k-preserved
 loop-k-preserved c =
+    let word = c.args.word.now.symbols in
     let k = c.loop-k.k in
-    let word = c.args.word.now in
-    let k = c.loop-k.k in
-    let within : k < 45 = omega (arith, c.as_chunks.ensures.front_len, c.loop-k-test.true, length-take-le 405 word (omega (arith, c.told-word))) in
-    let nine = nine_at word c.as_chunks.result.0.now k c.told-word c.as_chunks.ensures.front within in
+    let within : k < 45 = omega (arith, c.as_chunks.ensures.front_len, c.loop-k-test.true, length-take-le 405 word (omega (arith, c.args.word.now.elements.full))) in
+    let nine = nine_at word c.as_chunks.result.0.now k c.args.word.now.elements.full c.as_chunks.ensures.front within in
     elim c.match-read_ten.branch [
       | in-Err w ↦ rw (w.fault-is, w.or-fault.ensures) (reading.read_invalid word c.loop-k.characters _ c.read_ten.new.ten k (10 * k + 10 - 10 * k) c.loop-k.invalid c.loop-k.fault within nine (omega arith) c.loop-k.invariant w.in-Err.found c.match-read_ten.invalid w.in-Err.ensures w.invalid-is)
       | in_default w ↦ rw (w.fault-is, w.invalid-is) (reading.read_valid word c.loop-k.characters _ c.read_ten.new.ten k (10 * k + 10 - 10 * k) c.loop-k.invalid c.loop-k.fault within nine (omega arith) c.loop-k.invariant w.in_default.ensures)
@@ -37,5 +36,5 @@ loop-k-preserved c =
 
 pub returns : goal.returns
 returns c =
-    let k : c.loop-k.k ≡ 45 = omega (arith, c.as_chunks.ensures.front_len, c.loop-k-test.false, length-take-le 405 c.args.word.now (omega (arith, c.told-word))) in
-    reading.told_all c.args.word.now c.loop-k.characters c.loop-k.invalid c.loop-k.fault (subst (λ n. reading.ToldOf c.args.word.now c.loop-k.characters n c.loop-k.invalid c.loop-k.fault) k c.loop-k.invariant)
+    let k : c.loop-k.k ≡ 45 = omega (arith, c.as_chunks.ensures.front_len, c.loop-k-test.false, length-take-le 405 c.args.word.now.symbols (omega (arith, c.args.word.now.elements.full))) in
+    reading.told_all c.args.word.now.symbols c.loop-k.characters c.loop-k.invalid c.loop-k.fault (subst (λ n. reading.ToldOf c.args.word.now.symbols c.loop-k.characters n c.loop-k.invalid c.loop-k.fault) k c.loop-k.invariant)

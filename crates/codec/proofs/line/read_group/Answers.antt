@@ -1,28 +1,22 @@
-use Rattle.std.proofs.Common.{◌≡◌, sym, ◌∙◌, subst, arith, rules}
+use Rattle.std.proofs.Common.{sym, ◌∙◌, subst, arith, rules}
 use Rattle.codec.specs.Demapping.{GroupRead}
-use Rattle.codec.proofs.Groups.{pair_at, passed_pair, passed_is, words_read, words_written}
+use Rattle.codec.proofs.Groups.{passed_is, words_read, words_written}
 use Rattle.codec.proofs.line.read_group.Goals as goal
 
 pub returns-in_err-low : goal.returns-in_err-low
 returns-in_err-low g c =
-    let pair = g.L.LineCode.pair c.args.line_code.now in
     let six = c.args.group.now in
-    let at : passed_pair six 0 ≡ pair_at six 0 = passed_is six 0 (search rules) (search rules) in
-    subst (GroupRead pair six) (sym c.from_residual.ensures) (λ d h e. c.in_err-low.ensures.word_of_the_pair _ (omega arith) ((words_written pair six d e).0 ∙ sym at))
+    subst (GroupRead _ six) (sym c.from_residual.ensures) (λ d h e. c.in_err-low.ensures.word_of_the_pair _ (omega arith) ((words_written _ six d e).0 ∙ sym (passed_is six 0 (search rules) (search rules))))
 
 pub returns-in_err-middle : goal.returns-in_err-middle
 returns-in_err-middle g c =
-    let pair = g.L.LineCode.pair c.args.line_code.now in
     let six = c.args.group.now in
-    let at : passed_pair six 1 ≡ pair_at six 1 = passed_is six 1 (search rules) (search rules) in
-    subst (GroupRead pair six) (sym c.from_residual-in_err-middle.ensures) (λ d h e. c.in_err-middle.ensures.word_of_the_pair _ (omega arith) ((words_written pair six d e).1 ∙ sym at))
+    subst (GroupRead _ six) (sym c.from_residual-in_err-middle.ensures) (λ d h e. c.in_err-middle.ensures.word_of_the_pair _ (omega arith) ((words_written _ six d e).1 ∙ sym (passed_is six 1 (search rules) (search rules))))
 
 pub returns-in_err-high : goal.returns-in_err-high
 returns-in_err-high g c =
-    let pair = g.L.LineCode.pair c.args.line_code.now in
     let six = c.args.group.now in
-    let at : passed_pair six 2 ≡ pair_at six 2 = passed_is six 2 (search rules) (search rules) in
-    subst (GroupRead pair six) (sym c.from_residual-in_err-high.ensures) (λ d h e. c.in_err-high.ensures.word_of_the_pair _ (omega arith) ((words_written pair six d e).2 ∙ sym at))
+    subst (GroupRead _ six) (sym c.from_residual-in_err-high.ensures) (λ d h e. c.in_err-high.ensures.word_of_the_pair _ (omega arith) ((words_written _ six d e).2 ∙ sym (passed_is six 2 (search rules) (search rules))))
 
 pub returns : goal.returns
 returns g c =

@@ -19,6 +19,6 @@ returns g c =
     let end = receiver_end g.A.Arithmetic.field g.S.Stream.mask g.L.LineCode.pair c.args.self.now in
     record {
       answers_by_its_rule = answering.performed end 0 _ _ _ _ (receiver_rest_found c.args.self.now.lock c.in_ok-check_lock.ensures) (refl, refl);
-      stands_later = record { arithmetic = refl; masks = c.pass_masks.ensures.masks_used; code = refl };
+      stands_later = c.pass_masks.ensures.stands_later;
       lock_stays = refl;
     }

@@ -1,7 +1,7 @@
 use Rattle.std.proofs.Common.{◌≡◌, ℕ, ◌+◌, ◌<◌, None, length, get_or}
 use Rattle.codec.specs.Lines.{group}
 use Rattle.codec.specs.Demapping.{Descrambled}
-use Rattle.codec.proofs.line.read_line.Given as goal
+use Rattle.codec.proofs.ends.Parts.read_line.Given as goal
 
 abbrev pub invariant-loop-k : goal.invariant-loop-k
 invariant-loop-k g l =
