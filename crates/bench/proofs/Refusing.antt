@@ -12,6 +12,7 @@ use Rattle.codec.specs.declared.faults.EndFault.{EndFault}
 use Rattle.codec.specs.declared.faults.LineFault.TheVariants.{NoLineSymbol}
 use Rattle.codec.specs.declared.lock.FrameOutcome.{FrameOutcome}
 use Rattle.codec.specs.declared.request.Outcome.{Outcome}
+use Rattle.codec.proofs.Answered.{FirstOr}
 use Rattle.bench.specs.Benches.{Standing, Unchanged, Tells, Sends, in_range, out_of_range, Receives, both, neither, Carries, bad_head, sends, hits, receives, rests, NoPeriod, RefusedChangesNothing}
 use Rattle.bench.specs.declared.head.Head.{Head}
 use Rattle.bench.specs.Printing.{Answer}
@@ -45,7 +46,7 @@ stays a b outcome e later = subst (λ n. Later n a b) (ap (λ t. cond t 1 0) e) 
 
 -- a call refused before it was a period has written nothing
 unwritten : (X : Type 0) (found : List EndFault) (asked left : Call) (outcome : Outcome) → (X → ⊥)
-    → elim found as (λ f. Type 0) [ [] ↦ X | fault ∷ more ↦ (left ≡ asked) × (outcome ≡ Outcome.Refused fault) ] → left ≡ asked
+    → FirstOr X found left asked outcome → left ≡ asked
 unwritten X [] asked left outcome not h = absurd (not h)
 unwritten X (fault ∷ more) asked left outcome not h = h.0
 

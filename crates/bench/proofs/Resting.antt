@@ -1,5 +1,5 @@
 -- What both ends' rests answer. Assumes nothing.
-use Rattle.std.proofs.Common.{◌≡◌, ℕ, not, eqb, List, [], ◌∷◌, ◌++◌, length, replicate, ℤ, pos, None, Ok, Err, sym, refl, ap, ◌∙◌, subst, arith}
+use Rattle.std.proofs.Common.{◌≡◌, ℕ, not, eqb, List, [], ◌++◌, length, replicate, ℤ, pos, None, Ok, Err, sym, refl, ap, ◌∙◌, subst, arith}
 use Rattle.codec.specs.Calls.{Answers, Performs, faults, fault_if, receiver_rest, sender_rest, periods_of}
 use Rattle.codec.specs.Ends.{End, Later}
 use Rattle.codec.specs.Locks.{new_lock}
@@ -8,6 +8,7 @@ use Rattle.codec.specs.declared.faults.EndFault.{EndFault}
 use Rattle.codec.specs.declared.lock.Lock.{Lock}
 use Rattle.codec.specs.declared.lock.Lock.TheVariants.{Locked, Lost}
 use Rattle.codec.specs.declared.request.Outcome.{Outcome}
+use Rattle.codec.proofs.Answered.{FirstOr}
 use Rattle.bench.specs.Benches.{Standing, Tells, Rests, both, neither}
 use Rattle.bench.specs.Printing.{Answer}
 
@@ -31,7 +32,7 @@ zeros : (end : End) (line left : List ℤ) (outcome : Outcome) → length line �
     → Answers end 0 new_lock (sender_rest line) (sender_rest left) outcome → (left ≡ replicate 2700 (pos 0)) × (outcome ≡ Outcome.Done)
 zeros end line left outcome full h =
     let p : Performs end 0 (sender_rest line) (sender_rest left) outcome =
-    subst (λ found. elim found as (λ f. Type 0) [ [] ↦ Performs end 0 (sender_rest line) (sender_rest left) outcome | fault ∷ more ↦ (sender_rest left ≡ sender_rest line) × (outcome ≡ Outcome.Refused fault) ]) (no_fault line full) h in
+    subst (λ found. FirstOr (Performs end 0 (sender_rest line) (sender_rest left) outcome) found (sender_rest left) (sender_rest line) outcome) (no_fault line full) h in
     let e = p.0 in
     let same : left ≡ replicate 2700 (pos 0) = cc in
     (same, p.1)

@@ -6,7 +6,7 @@ use Rattle.bench.specs.Printing.{line_of}
 use Rattle.bench.specs.declared.bench.Step.{Step}
 
 -- the part of octets from a place on
-pub from_place : (octets : List ℕ) (n : ℕ) → take (length octets - n) (drop n octets) ≡ drop n octets
+from_place : (octets : List ℕ) (n : ℕ) → take (length octets - n) (drop n octets) ≡ drop n octets
 from_place octets n =
     let h : length (drop n octets) ≤ length octets - n = simp length-drop (le_refl _) in
     take_all (length octets - n) (drop n octets) h

@@ -30,14 +30,13 @@ pub record Standing : Type 0 where
   pub lock : Lock
   pub line : List ℤ
 
--- where two ends and a line stand, from the parts of the ends
-abbrev pub link_standing : {A S L : Type 0} {g : Ghosts A} → (A → Operations) → (S → ℕ → ℕ) → (L → ℕ → ℤ × ℤ) → Link A S L g → Standing
-link_standing field mask pair link =
-    record { sender = sender_end field mask pair link.sender; receiver = receiver_end field mask pair link.receiver; lock = link.receiver.lock; line = link.line }
+-- where two ends and a line stand, from what the ends and the lock are
+abbrev pub link_standing : {X Y : Type 0} → (X → End) → (Y → End) → (Y → Lock) → Link X Y → Standing
+link_standing sender receiver lock link = record { sender = sender link.sender; receiver = receiver link.receiver; lock = lock link.receiver; line = link.line }
 
 -- where a bench stands
 abbrev pub standing : {A S L : Type 0} {g : Ghosts A} → (A → Operations) → (S → ℕ → ℕ) → (L → ℕ → ℤ × ℤ) → Bench A S L g → Standing
-standing field mask pair bench = link_standing field mask pair bench.link
+standing field mask pair bench = link_standing (sender_end field mask pair) (receiver_end field mask pair) (λ r. r.lock) bench.link
 
 -- where a new bench stands: its line is zeros
 abbrev pub stands_new : {A S L : Type 0} {g : Ghosts A} → (A → Operations) → (S → ℕ → ℕ) → (L → ℕ → ℤ × ℤ) → Sender A S L g → Receiver A S L g → Standing

@@ -17,7 +17,7 @@ use std::fmt;
 /// Two ends over one line, and how many records they were driven by.
 #[derive(Drop)]
 pub struct Bench<A: Arithmetic, S, L> {
-    pub(crate) link: Link<A, S, L>,
+    pub(crate) link: Link<Sender<A, S, L>, Receiver<A, S, L>>,
     /// The number of the next record, modulo 2^64.
     pub(crate) number: usize,
 }
@@ -30,12 +30,14 @@ pub struct Step {
 }
 
 /// What is told of a record: a fault by its refusal.
+// A function: both types are the library's Result, between which no From can be written here. It is the one such conversion.
 fn answered(reply: Reply) -> Answer
     ensures { result ≡ told_of reply }
 {
     reply.map_err(Fault::refusal)
 }
 
+// Each clause says where a bench stands, as `at`: see Link.
 impl<A: Arithmetic, S: Stream, L: LineCode> Bench<A, S, L> {
     /// A bench over two ends. Its line is all zeros.
     pub fn new(sender: Sender<A, S, L>, receiver: Receiver<A, S, L>) -> Bench<A, S, L>
@@ -85,6 +87,7 @@ impl<A: Arithmetic, S: Stream, L: LineCode> Bench<A, S, L> {
         ensures all_whole_records { let at = standing A.field S.mask L.pair in IfOk result (λ taken. Ran (at self.old) self.old.number octets.now (string_bytes out.old) taken (at self.new) self.new.number (string_bytes out.new)) }
     {
         let mut taken = 0;
+        // Goes until no whole record is left: each says by its own length where the next one begins.
         while let Some(step) = self.step(&octets[taken..]) {
             print_line(step.printed, out)?;
             taken += step.taken;

@@ -39,6 +39,7 @@ impl Fault for BenchFault {
     }
 }
 
+// By hand: `thiserror` would print the same, without a contract for what is printed.
 impl fmt::Display for BenchFault {
     ghost use Rattle.std.specs.Prelude.{Some};
     ghost use Rattle.bench.specs.Refusals.{bench_fault_text};

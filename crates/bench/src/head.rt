@@ -21,10 +21,12 @@ pub enum Kind {
 #[derive(Clone, Copy, PartialEq, Eq, Debug)]
 pub struct Head {
     pub length: u16,
+    // A number and no Kind: a head is what the file says, and is printed also where no kind has its number.
     pub kind: u16,
 }
 
 /// The number of two octets, the first at weight 1.
+// A function: three readers need the octets told from the number, and `from_le_bytes` tells the number from the octets.
 pub(crate) fn two(low: u8, high: u8) -> u16
     ensures { two_octets result ≡ low ∷ high ∷ [] }
 {
@@ -46,6 +48,7 @@ pub fn read_head(octets: &[u8]) -> Option<Head>
 
 impl Head {
     /// The kind that the head asks for, with that kind's length; `number` is the record's number.
+    // The clauses of read_send and read_hit name this refusal too: each of the three public readers states its refusal whole.
     pub fn judge(self, number: usize) -> Result<Kind, BenchFault>
         ensures kind_with_its_length_or_refused { MatchResult result (λ k. FitsKind self k) (λ e. FitsNoKind self × (e ≡ BenchFault.BadRecord number)) }
     {

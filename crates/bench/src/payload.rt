@@ -9,6 +9,7 @@ use crate::head::two;
 #[derive(Clone, Copy, PartialEq, Eq, Debug)]
 pub struct Hit {
     pub place: usize,
+    // A number and no Symbol: it is put on the line, whose buffer is of numbers as the calls of the ends take it.
     pub symbol: i8,
 }
 

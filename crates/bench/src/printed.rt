@@ -13,6 +13,7 @@ pub type Answer = Result<Option<Report>, Refusal>;
 #[derive(Clone, Copy, PartialEq, Eq, Debug)]
 pub struct Printed {
     /// As the head says it, also where no kind has this number; 0 where the record is cut.
+    // A number and no Option<Kind>: the line has the number itself, the 0 of a cut record too.
     pub kind: u16,
     pub answer: Answer,
 }
@@ -20,6 +21,7 @@ pub struct Printed {
 impl fmt::Display for Printed {
     ghost output = { λ printed. Some (text_of printed) };
 
+    #[tactic(auto, using(crate::proofs::Texts::text_done, crate::proofs::Texts::text_accepted))]
     fn fmt<W: fmt::Write>(&self, f: &mut fmt::Formatter<W>) -> fmt::Result {
         let kind = self.kind;
         match self.answer {
@@ -43,6 +45,7 @@ impl fmt::Display for Printed {
 pub fn print_line(printed: Printed, out: &mut String) -> fmt::Result
     ensures adds_the_line { OnOk result (string_bytes out.new ≡ string_bytes out.old ++ line_of printed) }
 {
+    // Writing to a String answers an allocation's error, which the `?` converts.
     writeln!(out, "{printed}")?;
     Ok(())
 }

@@ -13,7 +13,7 @@ fn run(rt: &HostRuntime) -> anyhow::Result<()> {
     let mut piece = [0u8; PIECE];
     let mut held: Vec<u8> = Vec::new(rt.alloc());
     let mut out = String::new(rt.alloc());
-    // Nothing says that an input ends, so the turns are counted.
+    // Nothing says that an input ends, and `rt.forever()` needs a handle that no program here has: so the turns are counted.
     for _ in 0..u64::MAX {
         let n = rt.stdin().read(&mut piece)?;
         if n == 0 {

@@ -1,19 +1,24 @@
 //! Carries all 1,024 layouts of data and control through a block and back, and counts those that return.
 #![tactic(auto)]
 
-use codec::{read_block, write_block};
+use codec::{Character, Control, read_block, write_block};
 use std::{array, io};
 
-const CONTROLS: [u16; 4] = [256, 257, 258, 261];
+const CONTROLS: [Control; 4] = [
+    Control::NotReady,
+    Control::Error,
+    Control::Ready,
+    Control::LowPower,
+];
 
-/// Ten characters with a control at each place whose bit is set in the layout, the first place at weight 1.
+/// The numbers of ten characters with a control at each place whose bit is set in the layout, the first place at weight 1.
 fn characters_of(layout: u16) -> [u16; 10] {
     array::from_fn(|k| {
-        if layout >> k & 1 == 0 {
-            (layout / 4 + 25 * k as u16) % 256
+        u16::from(if layout >> k & 1 == 0 {
+            Character::Data(((layout / 4 + 25 * k as u16) % 256) as u8)
         } else {
-            CONTROLS[(usize::from(layout) + k) % 4]
-        }
+            Character::Control(CONTROLS[(usize::from(layout) + k) % 4])
+        })
     })
 }
 
@@ -28,6 +33,7 @@ fn returns(characters: &[u16; 10]) -> bool {
 
 fn main(rt: HostRuntime) -> io::Result<()> {
     let mut returned = 0u32;
+    // The number is the layout itself, and no index.
     for layout in 0u16..1024 {
         if returns(&characters_of(layout)) {
             returned = returned.saturating_add(1);

@@ -3,8 +3,8 @@ use crate::agreeing::exchange_of_two_kinds;
 use crate::lists::print_each;
 use arithmetic::Tabled;
 use codec::{
-    EndFault, Outcome, Receiver, Receiving, Report, Request, Ring, Role, Scrambler, Seed, Sender,
-    Sending, Turn,
+    Character, Control, EndFault, Outcome, Receiver, Receiving, Report, Request, Ring, Role,
+    Scrambler, Seed, Sender, Sending, Turn,
 };
 use refusal::Fault;
 use std::{array, io};
@@ -12,13 +12,15 @@ use std::{array, io};
 /// The management symbol of the frames here.
 const SYMBOL: u16 = 300;
 
-/// A packet between idles: data with an error mark in it, and low power at the end.
+/// A packet between idles: data with an error mark in it, and low power at the end. A send takes them as numbers.
 fn characters() -> [u16; 450] {
-    array::from_fn(|k| match k {
-        20..419 => (7 * k % 256) as u16,
-        419 => 257,
-        440.. => 261,
-        _ => 258,
+    array::from_fn(|k| {
+        u16::from(match k {
+            20..419 => Character::Data((7 * k % 256) as u8),
+            419 => Character::Control(Control::Error),
+            440.. => Character::Control(Control::LowPower),
+            _ => Character::Control(Control::Ready),
+        })
     })
 }
 
@@ -44,17 +46,15 @@ fn damage(line: &mut [i8; 2700], groups: usize) {
     }
 }
 
-/// Prints an answer. How a report reads here is this program's own.
+/// Prints what a receive answers.
+// No Display: how a report reads here is this program's own, and the type is the codec's, so it would need a wrapper.
 fn print_outcome(rt: &HostRuntime, answer: Result<Report, EndFault>) -> io::Result<()> {
     match answer {
         Ok(report) => println!(rt;
             "  accepted: symbol {}, {} places, invalid set {}",
             report.symbol, report.places, report.invalid
         ),
-        Err(fault) => {
-            let why = fault.refusal();
-            println!(rt; "  {why}")
-        }
+        Err(fault) => println!(rt; "  {}", fault.refusal()),
     }
 }
 
@@ -82,6 +82,7 @@ pub(crate) fn lost_lock(rt: &HostRuntime) -> io::Result<()> {
     let line = [0i8; 2700];
     let mut received = [0u16; 450];
     let mut places = [0u16; 22];
+    // The number is printed, and no index.
     for n in 1..42usize {
         let answer = receiver.receive(&line, &mut received, &mut places);
         if n == 1 || n >= 40 {
@@ -92,6 +93,7 @@ pub(crate) fn lost_lock(rt: &HostRuntime) -> io::Result<()> {
     Ok(())
 }
 
+// Accepted and refused are printed as an answer is; an outcome has two cases more.
 fn print_turn(rt: &HostRuntime, turn: &Turn) -> io::Result<()> {
     match turn.outcome {
         Outcome::Unanswered => println!(rt; "  not asked"),

@@ -1,6 +1,6 @@
 //! A packet's tail in a block, and blocks that encode nothing.
 use crate::lists::print_each;
-use codec::{read_block, write_block};
+use codec::{Character, Control, read_block, write_block};
 use refusal::Fault;
 use std::io;
 
@@ -21,22 +21,19 @@ fn print_read(rt: &HostRuntime, block: &[u8; 11]) -> io::Result<()> {
     let mut characters = [0u16; 10];
     match read_block(block, &mut characters) {
         Ok(()) => print_characters(rt, &characters),
-        Err(fault) => {
-            let why = fault.refusal();
-            println!(rt; "  {why}")
-        }
+        Err(fault) => println!(rt; "  {}", fault.refusal()),
     }
 }
 
 /// A packet's last nine octets and an error mark, which falls in octet 9: written, and read back.
 pub(crate) fn packet_tail(rt: &HostRuntime) -> io::Result<()> {
     println!(rt; "A packet's tail with an error mark as its lone control, in octet 9:")?;
-    let tail = [0xde, 0xad, 0xbe, 0xef, 0x10, 0x20, 0x30, 0x40, 0x50, 257];
+    let mark = u16::from(Character::Control(Control::Error));
+    let tail = [0xde, 0xad, 0xbe, 0xef, 0x10, 0x20, 0x30, 0x40, 0x50, mark];
     print_characters(rt, &tail)?;
     let mut block = [0u8; 11];
     if let Err(fault) = write_block(&tail, &mut block) {
-        let why = fault.refusal();
-        return println!(rt; "  {why}");
+        return println!(rt; "  {}", fault.refusal());
     }
     print_block(rt, &block)?;
     println!(rt; "read back:")?;

@@ -4,6 +4,7 @@ use std::io;
 
 fn print_pairs<L: LineCode>(rt: &HostRuntime, name: &str, code: &L) -> io::Result<()> {
     print!(rt; "  {name}:")?;
+    // The number is the word itself, and no index.
     for word in 0..8u8 {
         let (first, second) = code.write(word);
         print!(rt; " ({first}, {second})")?;

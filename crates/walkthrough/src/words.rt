@@ -22,8 +22,7 @@ pub(crate) fn damaged_words(rt: &HostRuntime) -> io::Result<()> {
     let code = Code::new(Tabled);
     let mut sent = message();
     if let Err(fault) = code.complete(&mut sent) {
-        let Refusal { number, .. } = fault.refusal();
-        println!(rt; "not completed: {number}")?;
+        println!(rt; "not completed: {}", fault.refusal().number)?;
     }
     println!(rt;
         "completed: the last symbols are {} {} {}",

@@ -7,10 +7,15 @@ use codec::{Receiver, Receiving, Ring, Role, Scrambler, Seed, Sender, Sending};
 use refusal::Fault;
 use std::io;
 
+/// The stream of a master at state 1.
+// Walkthrough has the same line; a crate for both would hold no more than that.
+fn master() -> Scrambler {
+    Scrambler::from_seed(Role::Master, Seed::ONE)
+}
+
 /// The first twelve line symbols of zero octets with the management symbol 0.
 fn start_of_zeros(rt: &HostRuntime) -> io::Result<()> {
-    let master = Scrambler::from_seed(Role::Master, Seed::ONE);
-    let mut sender = Sender::new(Tabled, master, Ring);
+    let mut sender = Sender::new(Tabled, master(), Ring);
     let mut line = [0i8; 2700];
     match sender.send(&[0; 450], 0, &mut line) {
         Ok(()) => print!(rt; "sent")?,
@@ -24,8 +29,7 @@ fn start_of_zeros(rt: &HostRuntime) -> io::Result<()> {
 
 /// A line of zeros received.
 fn zeros_received(rt: &HostRuntime) -> io::Result<()> {
-    let master = Scrambler::from_seed(Role::Master, Seed::ONE);
-    let mut receiver = Receiver::new(Tabled, master, Ring);
+    let mut receiver = Receiver::new(Tabled, master(), Ring);
     match receiver.receive(&[0; 2700], &mut [0; 450], &mut [0; 22]) {
         Ok(report) => println!(rt; "accepted {}", report.symbol),
         Err(fault) => println!(rt; "{}", fault.refusal().number),
