@@ -1,4 +1,4 @@
-//! What both arithmetics do alike: numbers are polynomials over two elements, modulo x⁹ + x⁴ + 1.
+//! Numbers as polynomials over two elements, modulo x⁹ + x⁴ + 1: the sum, which both arithmetics have, and doubling.
 ghost use Rattle.std.specs.Prelude.{◌≡◌, ◌<◌};
 ghost use Rattle.arithmetic.specs.Laws.{elements};
 ghost use Rattle.arithmetic.specs.Polynomials.{sum as sum_of, twice};

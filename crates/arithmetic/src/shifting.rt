@@ -6,7 +6,8 @@ use crate::polynomials::{double, sum};
 use crate::{ALPHA, Arithmetic, ELEMENTS};
 
 /// Works each answer out, and stores nothing.
-// Beside `Tabled` and no twin of it: what both do alike is written once, in polynomials.rt; products and inverses come about another way.
+// Beside `Tabled` and no twin of it: products and inverses come about another way. What both have alike is named in each impl, and
+// stands once, in polynomials.rt and lib.rt.
 #[derive(Clone, Copy, Debug)]
 pub struct Shifting;
 

@@ -1,19 +1,19 @@
 -- A reading that fails, fails at the first invalid field.
-use Rattle.std.proofs.Common.{◌≡◌, ℕ, zero, suc, ◌+◌, ◌-◌, ◌*◌, ◌/◌, ◌%◌, ◌<◌, ◌≤◌, Bool, true, false, cond, eqb, ltb, ◌⊎◌, List, [], ◌∷◌, map, reverse, length, get_or, take, drop, Some, None, Ok, Err, Option, Result, MatchResult, sym, refl, ap, ◌∙◌, subst, inl, inr, suc-le-suc, zero-le, arith}
+use Rattle.std.proofs.Common.{◌≡◌, ℕ, zero, suc, ◌+◌, ◌-◌, ◌*◌, ◌/◌, ◌%◌, ◌<◌, ◌≤◌, Bool, true, false, ◌⊎◌, List, [], ◌∷◌, map, reverse, length, get_or, take, drop, Some, None, Ok, Err, Option, Result, MatchResult, sym, refl, ap, ◌∙◌, subst, inl, inr, suc-le-suc, zero-le, arith}
 use Rattle.std.proofs.lemmas.List.{drop-drop}
-use Rattle.std.proofs.lemmas.Bool.{ltb-false, lt-ltb, eqb-true, eqb-false, both_ways}
+use Rattle.std.proofs.lemmas.Bool.{both_ways}
 use Rattle.blocks.specs.Characters as characters
 use Rattle.blocks.specs.Faults.{block_refusal}
 use Rattle.blocks.specs.Bits.{bits, number, unpacked}
 use Rattle.blocks.specs.Blocks.{reserved_code, pointer, header, position, more, from_code, coded, ValidPointer, InvalidFrom, pointer_invalid, code_invalid, later, InvalidField, header_invalid, field_invalid, Encodes, EncodesOnly, EncodesNone}
-use Rattle.blocks.specs.Steps.{turned, is_character, control_read, valid, before_all, onward, started, reading}
+use Rattle.blocks.specs.Steps.{turned, valid, before_all, started, reading}
 use Rattle.blocks.specs.declared.faults.BlockFault.{BlockFault}
 use Rattle.blocks.specs.declared.faults.BlockFault.TheVariants.{InvalidPointer, ReservedCode}
 use Rattle.blocks.specs.declared.ahead.Ahead.{Ahead}
-use Rattle.blocks.specs.declared.ahead.Ahead.TheVariants.{Pointer, Control, Nothing}
+use Rattle.blocks.specs.declared.ahead.Ahead.TheVariants.{Pointer, Control}
 use Rattle.blocks.proofs.Packing.{drop_unpacked}
-use Rattle.blocks.proofs.Octets.{Points, block_line}
-use Rattle.blocks.proofs.Inverse.{Below, from_allowed, allowed_from, is_control_from, points_valid, valid_points, back_nothing, starts, reads_back, makes_block, only_those}
+use Rattle.blocks.proofs.Octets.{Points, points_more, block_line}
+use Rattle.blocks.proofs.Inverse.{Below, points_valid, valid_points, back_nothing, KnownOctet, not_yet, last_control, earlier_control, reserved, known_octet, starts, reads_back, makes_block, only_those}
 
 -- an octet's bits
 
@@ -127,36 +127,23 @@ due_fails n (b ∷ bs) l h below ih e r = go (valid n (b % 32)) refl
         done pts (ih (b % 32) e pts (rw v at r) j (omega (arith, pts.ahead)))
 
 known_fails_more : (n b : ℕ) (bs : List ℕ) → n + suc (length bs) ≡ 10 → Below (b ∷ bs) → KnownFails (n + 1) bs → KnownFails n (b ∷ bs)
-unfolding reading
-known_fails_more n b bs l below ih q e pts r j w = go (eqb (q % 16) n) refl j w
+known_fails_more n b bs l below ih q e pts r j w = go (known_octet q n b bs) j w
   where
-    c : ℕ
-    c = 256 + turned (b / 32)
-
     Out : ℕ → Type 0
     Out j = ((Code j (b ∷ bs) → ⊥) × (e ≡ ReservedCode (q % 16))) ⊎ (Code j (b ∷ bs) × (16 ≤ q) × Invalid (q % 16 + 1) (drop (suc j) (b ∷ bs)) e)
 
-    after : (t : Bool) → ltb q 16 ≡ t → q % 16 ≡ n → characters.Control c → before_all c (reading (cond (ltb q 16) Nothing Pointer) (n + 1) bs) ≡ Err e → Out 0
-    after true low hit ch f = let z : ◌≡◌ {A = ℕ} 0 1 = cc (back_nothing 0 (n + 1) bs, rw low at f) in absurd (omega arith)
-    after false low hit ch f =
-        let big : 16 ≤ q = ltb-false q 16 low in
-        let i : Invalid (n + 1) bs e = due_fails (n + 1) bs (omega arith) (omega (arith, pts.last, pts.small, pts.inside)) (λ k i. below (suc k) (suc-le-suc i)) ih e (fails c (reading Pointer (n + 1) bs) e (rw low at f)) in
-        inr (ch, big, (rw hit i))
-
-    at : (t : Bool) → is_character c ≡ t → q % 16 ≡ n → onward (control_read q n c) (λ a. reading a (n + 1) bs) ≡ Err e → Out 0
-    at true g hit f = after (ltb q 16) refl hit (is_control_from c (lt-ltb 255 c (omega arith)) (from_allowed c g)) (rw g at f)
-    at false g hit f =
-        let s : ReservedCode n ≡ e = cc (rw g at f) in
-        inl ((λ h. both_ways (is_character c) g (allowed_from c (inr h))), sym s ∙ ap ReservedCode (sym hit))
-
-    go : (t : Bool) → eqb (q % 16) n ≡ t → (j : ℕ) → n + j ≡ q % 16 → Out j
-    go true f zero w = at (is_character c) refl (eqb-true (q % 16) n f) (rw f at r)
-    go true f (suc j) w = let x : q % 16 ≡ n = eqb-true (q % 16) n f in absurd (omega arith)
-    go false f zero w = absurd (eqb-false (q % 16) n f (omega arith))
-    go false f (suc j) w =
-        let off : q % 16 ≡ n → ⊥ = eqb-false (q % 16) n f in
-        let pts' : Points (n + 1) q = record { ahead = omega (arith, pts.ahead); inside = pts.inside; last = pts.last; small = pts.small } in
-        ih q e pts' (fails (b / 32 + 8 * (get_or bs 0 0 % 32)) (reading (Control q) (n + 1) bs) e (rw f at r)) j (omega arith)
+    go : KnownOctet q n b bs → (j : ℕ) → n + j ≡ q % 16 → Out j
+    go (not_yet off s) zero w = absurd (off (omega arith))
+    go (not_yet off s) (suc j) w = ih q e (points_more n q pts off) (fails (b / 32 + 8 * (get_or bs 0 0 % 32)) (reading (Control q) (n + 1) bs) e (sym s ∙ r)) j (omega arith)
+    go (last_control hit code low s) j w = let z : ◌≡◌ {A = ℕ} 0 1 = cc (s, r) in absurd (omega arith)
+    go (earlier_control hit code big s) zero w =
+        let i : Invalid (n + 1) bs e = due_fails (n + 1) bs (omega arith) (omega (arith, pts.last, pts.small, pts.inside)) (λ k i. below (suc k) (suc-le-suc i)) ih e (fails (256 + turned (b / 32)) (reading Pointer (n + 1) bs) e (sym s ∙ r)) in
+        inr (code, big, (rw hit i))
+    go (earlier_control hit code big s) (suc j) w = absurd (omega arith)
+    go (reserved hit none s) zero w =
+        let told : ReservedCode n ≡ e = cc (s, r) in
+        inl (none, sym told ∙ ap ReservedCode (sym hit))
+    go (reserved hit none s) (suc j) w = absurd (omega arith)
 
 known_fails : (n : ℕ) (bs : List ℕ) → n + length bs ≡ 10 → Below bs → KnownFails n bs
 known_fails n [] l h = λ q e pts r. absurd (omega (arith, pts.ahead, pts.inside))

@@ -1,15 +1,16 @@
 -- Reading gives back what was written, and what is read makes the block.
 use Rattle.std.proofs.Common.{◌≡◌, ℕ, zero, suc, ◌+◌, ◌*◌, ◌/◌, ◌%◌, ◌<◌, ◌≤◌, Bool, true, false, cond, eqb, ltb, List, [], ◌∷◌, length, get_or, drop, Some, None, Ok, Err, Option, Result, sym, refl, ap, ◌∙◌, subst, inl, inr, suc-le-suc, zero-le, arith}
-use Rattle.std.proofs.lemmas.Bool.{ltb-true, ltb-false, lt-ltb, le-ltb, eqb-true, eqb-false, eq-eqb, ne_eqb, le-leb, leb-true, and_parts, and_from, not-true, not_from_false}
+use Rattle.std.proofs.lemmas.Bool.{ltb-true, ltb-false, lt-ltb, le-ltb, eqb-true, eqb-false, eq-eqb, ne_eqb, le-leb, leb-true, and_parts, and_from, not-true, not_from_false, both_ways}
 use Rattle.std.proofs.lemmas.Bool.Decides.{nat_tests}
 use Rattle.blocks.specs.Characters.{Character, Characters, is_control}
 use Rattle.blocks.specs.Characters as characters
 use Rattle.blocks.specs.Blocks.{pointer, marked, block_of, header, Encodes}
-use Rattle.blocks.specs.Steps.{turned, top, octet, line, is_character, control_read, read_at, valid, stepped, before_all, onward, reading}
+use Rattle.blocks.specs.Steps.{turned, top, octet, line, is_character, read_at, valid, stepped, before_all, onward, reading}
 use Rattle.blocks.specs.declared.faults.BlockFault.{BlockFault}
+use Rattle.blocks.specs.declared.faults.BlockFault.TheVariants.{ReservedCode}
 use Rattle.blocks.specs.declared.ahead.Ahead.{Ahead}
 use Rattle.blocks.specs.declared.ahead.Ahead.TheVariants.{Pointer, Control, Nothing}
-use Rattle.blocks.proofs.Octets.{first, rest, data_below, pointer_control, pointer_data, pointer_nil, line_more, line_none, Points, points, block_line}
+use Rattle.blocks.proofs.Octets.{first, rest, data_below, pointer_control, pointer_data, pointer_nil, line_more, line_none, Points, points_more, points, block_line}
 
 -- characters by test
 
@@ -157,6 +158,26 @@ pub apart : (c : ℕ) (r : Result (List ℕ) BlockFault) (cs : List ℕ) → bef
 apart c (Ok ds) cs e = (ds, refl, cc)
 apart c (Err x) cs e = let z : ◌≡◌ {A = ℕ} 0 1 = cc in absurd (omega arith)
 
+-- octet n where the pointer q is known: before the octet that q names, or that octet: the last control, an earlier one, or no character
+pub data KnownOctet (q n b : ℕ) (bs : List ℕ) : Type 0 where
+  not_yet : (q % 16 ≡ n → ⊥) → reading (Control q) n (b ∷ bs) ≡ before_all (b / 32 + 8 * (get_or bs 0 0 % 32)) (reading (Control q) (n + 1) bs) → KnownOctet q n b bs
+  last_control : q % 16 ≡ n → characters.Control (256 + turned (b / 32)) → q < 16 → reading (Control q) n (b ∷ bs) ≡ Ok ((256 + turned (b / 32)) ∷ bs) → KnownOctet q n b bs
+  earlier_control : q % 16 ≡ n → characters.Control (256 + turned (b / 32)) → 16 ≤ q → reading (Control q) n (b ∷ bs) ≡ before_all (256 + turned (b / 32)) (reading Pointer (n + 1) bs) → KnownOctet q n b bs
+  reserved : q % 16 ≡ n → (characters.Control (256 + turned (b / 32)) → ⊥) → reading (Control q) n (b ∷ bs) ≡ Err (ReservedCode n) → KnownOctet q n b bs
+
+pub known_octet : (q n b : ℕ) (bs : List ℕ) → KnownOctet q n b bs
+unfolding reading
+known_octet q n b bs = go (eqb (q % 16) n) refl
+  where
+    at : (t u : Bool) → is_character (256 + turned (b / 32)) ≡ t → ltb q 16 ≡ u → eqb (q % 16) n ≡ true → KnownOctet q n b bs
+    at true true g low f = last_control (eqb-true (q % 16) n f) (is_control_from _ (lt-ltb 255 (256 + turned (b / 32)) (omega arith)) (from_allowed _ g)) (ltb-true q 16 low) (rw (f, g, low, back_nothing 0 (n + 1) bs))
+    at true false g low f = earlier_control (eqb-true (q % 16) n f) (is_control_from _ (lt-ltb 255 (256 + turned (b / 32)) (omega arith)) (from_allowed _ g)) (ltb-false q 16 low) (rw (f, g, low))
+    at false u g low f = reserved (eqb-true (q % 16) n f) (λ h. both_ways _ g (allowed_from _ (inr h))) (rw (f, g))
+
+    go : (t : Bool) → eqb (q % 16) n ≡ t → KnownOctet q n b bs
+    go true f = at (is_character (256 + turned (b / 32))) (ltb q 16) refl refl f
+    go false f = not_yet (eqb-false (q % 16) n f) (rw f)
+
 pub record Makes (n q : ℕ) (bs cs : List ℕ) : Type 0 where
   pub pointed : pointer n cs ≡ Some q
   pub characters : Characters cs
@@ -235,8 +256,7 @@ makes_control n q b c bs ds h s ch e hs k m =
     low_code c t s h = omega arith
 
 known_more : (n b : ℕ) (bs : List ℕ) → n + suc (length bs) ≡ 10 → Below (b ∷ bs) → Known (n + 1) bs → Known n (b ∷ bs)
-unfolding reading
-known_more n b bs l h ih q cs pts e = go (eqb (q % 16) n) refl
+known_more n b bs l h ih q cs pts e = go (known_octet q n b bs)
   where
     small : b < 256
     small = h 0 (suc-le-suc zero-le)
@@ -247,34 +267,19 @@ known_more n b bs l h ih q cs pts e = go (eqb (q % 16) n) refl
     c : ℕ
     c = 256 + turned (b / 32)
 
-    at_nothing : ltb q 16 ≡ true → q % 16 ≡ n → Character c → before_all c (reading Nothing (n + 1) bs) ≡ Ok cs → Makes n q (b ∷ bs) cs
-    at_nothing low hit ch e =
-        let s : c ∷ bs ≡ cs = cc (back_nothing 0 (n + 1) bs, e) in
-        subst (λ l. Makes n q (b ∷ bs) l) s (makes_control n q b c bs bs small refl ch (rw (none_below (n + 1) bs below) (omega (arith, ltb-true q 16 low))) (characters_below bs below) refl (line_none c (n + 1) bs (none_below (n + 1) bs below)))
-
-    at_pointer : ltb q 16 ≡ false → q % 16 ≡ n → Character c → before_all c (reading Pointer (n + 1) bs) ≡ Ok cs → Makes n q (b ∷ bs) cs
-    at_pointer low hit ch e =
-        let a = apart c (reading Pointer (n + 1) bs) cs e in
-        let big : 16 ≤ q = ltb-false q 16 low in
+    go : KnownOctet q n b bs → Makes n q (b ∷ bs) cs
+    go (not_yet off r) =
+        let a = apart (b / 32 + 8 * (get_or bs 0 0 % 32)) (reading (Control q) (n + 1) bs) cs (sym r ∙ e) in
+        subst (λ l. Makes n q (b ∷ bs) l) a.2 (makes_data n q b _ bs a.0 small refl (ih q a.0 (points_more n q pts off) a.1))
+    go (last_control hit code low r) =
+        let s : c ∷ bs ≡ cs = cc (r, e) in
+        subst (λ l. Makes n q (b ∷ bs) l) s (makes_control n q b c bs bs small refl (inr code) (rw (none_below (n + 1) bs below) (omega arith)) (characters_below bs below) refl (line_none c (n + 1) bs (none_below (n + 1) bs below)))
+    go (earlier_control hit code big r) =
+        let a = apart c (reading Pointer (n + 1) bs) cs (sym r ∙ e) in
         let m : Makes (n + 1) (get_or bs 0 0 % 32) bs a.0 = due_known (n + 1) bs (omega arith) (omega arith) ih a.0 a.1 in
         let f : is_control c ≡ true = lt-ltb 255 c (omega arith) in
-        subst (λ l. Makes n q (b ∷ bs) l) a.2 (makes_control n q b c bs a.0 small refl ch (rw m.pointed (omega arith)) m.characters m.size (m.lines c (rw f)))
-
-    after : (t : Bool) → ltb q 16 ≡ t → q % 16 ≡ n → Character c → before_all c (reading (cond (ltb q 16) Nothing Pointer) (n + 1) bs) ≡ Ok cs → Makes n q (b ∷ bs) cs
-    after true low hit ch e = at_nothing low hit ch (rw low at e)
-    after false low hit ch e = at_pointer low hit ch (rw low at e)
-
-    at : (t : Bool) → is_character c ≡ t → q % 16 ≡ n → onward (control_read q n c) (λ a. reading a (n + 1) bs) ≡ Ok cs → Makes n q (b ∷ bs) cs
-    at true g hit e = after (ltb q 16) refl hit (from_allowed c g) (rw g at e)
-    at false g hit e = let z : ◌≡◌ {A = ℕ} 0 1 = cc (rw g at e) in absurd (omega arith)
-
-    go : (t : Bool) → eqb (q % 16) n ≡ t → Makes n q (b ∷ bs) cs
-    go true f = at (is_character c) refl (eqb-true (q % 16) n f) (rw f at e)
-    go false f =
-        let a = apart (b / 32 + 8 * (get_or bs 0 0 % 32)) (reading (Control q) (n + 1) bs) cs (rw f at e) in
-        let off : q % 16 ≡ n → ⊥ = eqb-false (q % 16) n f in
-        let pts' : Points (n + 1) q = record { ahead = omega (arith, pts.ahead); inside = pts.inside; last = pts.last; small = pts.small } in
-        subst (λ l. Makes n q (b ∷ bs) l) a.2 (makes_data n q b _ bs a.0 small refl (ih q a.0 pts' a.1))
+        subst (λ l. Makes n q (b ∷ bs) l) a.2 (makes_control n q b c bs a.0 small refl (inr code) (rw m.pointed (omega arith)) m.characters m.size (m.lines c (rw f)))
+    go (reserved hit none r) = let z : ◌≡◌ {A = ℕ} 0 1 = cc (r, e) in absurd (omega arith)
 
 known_all : (n : ℕ) (bs : List ℕ) → n + length bs ≡ 10 → Below bs → Known n bs
 known_all n [] l h = λ q cs pts e. absurd (omega (arith, pts.ahead, pts.inside))

@@ -1,15 +1,14 @@
 -- A block that encodes characters has no invalid field.
-use Rattle.std.proofs.Common.{◌≡◌, ℕ, zero, suc, ◌+◌, ◌-◌, ◌*◌, ◌/◌, ◌%◌, ◌<◌, ◌≤◌, Bool, true, false, eqb, ltb, List, [], ◌∷◌, length, get_or, drop, Ok, sym, refl, ap, ◌∙◌, subst, arith, length-drop}
+use Rattle.std.proofs.Common.{◌≡◌, ℕ, zero, suc, ◌+◌, ◌-◌, ◌*◌, ◌/◌, ◌%◌, ◌<◌, ◌≤◌, Bool, true, false, List, [], ◌∷◌, length, get_or, drop, Ok, sym, refl, ap, ◌∙◌, subst, arith, length-drop}
 use Rattle.std.proofs.lemmas.List.{get_or-drop}
-use Rattle.std.proofs.lemmas.Bool.{lt-ltb, le-ltb, eqb-true, eqb-false}
 use Rattle.blocks.specs.Characters as characters
 use Rattle.blocks.specs.Bits.{unpacked}
 use Rattle.refusal.specs.declared.kinds.Refusal.{Refusal}
 use Rattle.blocks.specs.Blocks.{pointer, header, position, more, from_code, coded, ValidPointer, InvalidFrom, pointer_invalid, code_invalid, later, InvalidField, header_invalid, field_invalid, Encodes}
-use Rattle.blocks.specs.Steps.{line, turned, is_character, control_read, valid, onward, reading}
+use Rattle.blocks.specs.Steps.{line, turned, valid, reading}
 use Rattle.blocks.specs.declared.ahead.Ahead.TheVariants.{Pointer, Control}
-use Rattle.blocks.proofs.Octets.{Points, block_line}
-use Rattle.blocks.proofs.Inverse.{Below, from_allowed, is_control_from, points_valid, apart, starts, reads_back}
+use Rattle.blocks.proofs.Octets.{Points, points_more, block_line}
+use Rattle.blocks.proofs.Inverse.{Below, points_valid, apart, KnownOctet, not_yet, last_control, earlier_control, reserved, known_octet, starts, reads_back}
 use Rattle.blocks.proofs.Invalid.{Code, Octets, position_is, more_is, coded_is, on_is, valid_bits, none_headed}
 
 -- a reading that goes well meets no invalid field
@@ -18,34 +17,22 @@ abbrev Well : ℕ → List ℕ → ℕ → Type 0
 Well n bs q = (j : ℕ) → n + j ≡ q % 16 → Code j bs × (16 ≤ q → (ds : List ℕ) × (reading Pointer (q % 16 + 1) (drop (suc j) bs) ≡ Ok ds))
 
 known_well : (n : ℕ) (bs cs : List ℕ) (q : ℕ) → n + length bs ≡ 10 → Points n q → reading (Control q) n bs ≡ Ok cs → Well n bs q
-unfolding reading
 known_well n [] cs q l pts r = absurd (omega (arith, pts.ahead, pts.inside))
-known_well n (b ∷ bs) cs q l pts r = go (eqb (q % 16) n) refl
-    (λ ds off s. known_well (n + 1) bs ds q (omega arith) (record { ahead = omega (arith, pts.ahead); inside = pts.inside; last = pts.last; small = pts.small }) s)
+known_well n (b ∷ bs) cs q l pts r = go (known_octet q n b bs) (λ ds off s. known_well (n + 1) bs ds q (omega arith) (points_more n q pts off) s)
   where
-    c : ℕ
-    c = 256 + turned (b / 32)
-
     Out : ℕ → Type 0
     Out j = Code j (b ∷ bs) × (16 ≤ q → (ds : List ℕ) × (reading Pointer (q % 16 + 1) (drop (suc j) (b ∷ bs)) ≡ Ok ds))
 
-    at : (t : Bool) → is_character c ≡ t → q % 16 ≡ n → onward (control_read q n c) (λ a. reading a (n + 1) bs) ≡ Ok cs → Out 0
-    at true g hit f = (
-      is_control_from c (lt-ltb 255 c (omega arith)) (from_allowed c g),
-      λ big.
-          let low : ltb q 16 ≡ false = le-ltb q 16 big in
-          let a = apart c (reading Pointer (n + 1) bs) cs (rw (g, low) at f) in
-          (a.0, rw hit a.1),
-    )
-    at false g hit f = let z : ◌≡◌ {A = ℕ} 0 1 = cc (rw g at f) in absurd (omega arith)
-
-    go : (t : Bool) → eqb (q % 16) n ≡ t → ((ds : List ℕ) → (q % 16 ≡ n → ⊥) → reading (Control q) (n + 1) bs ≡ Ok ds → Well (n + 1) bs q) → (j : ℕ) → n + j ≡ q % 16 → Out j
-    go true f ih zero w = at (is_character c) refl (eqb-true (q % 16) n f) (rw f at r)
-    go true f ih (suc j) w = let x : q % 16 ≡ n = eqb-true (q % 16) n f in absurd (omega arith)
-    go false f ih zero w = absurd (eqb-false (q % 16) n f (omega arith))
-    go false f ih (suc j) w =
-        let a = apart (b / 32 + 8 * (get_or bs 0 0 % 32)) (reading (Control q) (n + 1) bs) cs (rw f at r) in
-        ih a.0 (eqb-false (q % 16) n f) a.1 j (omega arith)
+    go : KnownOctet q n b bs → ((ds : List ℕ) → (q % 16 ≡ n → ⊥) → reading (Control q) (n + 1) bs ≡ Ok ds → Well (n + 1) bs q) → (j : ℕ) → n + j ≡ q % 16 → Out j
+    go (not_yet off s) ih zero w = absurd (off (omega arith))
+    go (not_yet off s) ih (suc j) w =
+        let a = apart (b / 32 + 8 * (get_or bs 0 0 % 32)) (reading (Control q) (n + 1) bs) cs (sym s ∙ r) in
+        ih a.0 off a.1 j (omega arith)
+    go (last_control hit code low s) ih zero w = (code, λ big. absurd (omega arith))
+    go (last_control hit code low s) ih (suc j) w = absurd (omega arith)
+    go (earlier_control hit code big s) ih zero w = (code, λ _. let a = apart (256 + turned (b / 32)) (reading Pointer (n + 1) bs) cs (sym s ∙ r) in (a.0, rw hit a.1))
+    go (earlier_control hit code big s) ih (suc j) w = absurd (omega arith)
+    go (reserved hit none s) ih j w = let z : ◌≡◌ {A = ℕ} 0 1 = cc (s, r) in absurd (omega arith)
 
 due_well : (n b : ℕ) (bs cs : List ℕ) → n + suc (length bs) ≡ 10 → reading Pointer n (b ∷ bs) ≡ Ok cs → Points n (b % 32) × Well n (b ∷ bs) (b % 32)
 unfolding reading

@@ -115,6 +115,10 @@ pub record Points (n p : ℕ) : Type 0 where
   pub last : p ≡ 25 → ⊥
   pub small : p < 32
 
+-- a pointer that does not name octet n is ahead from octet n + 1 too
+pub points_more : (n p : ℕ) → Points n p → (p % 16 ≡ n → ⊥) → Points (n + 1) p
+points_more n p h off = record { ahead = omega (arith, h.ahead); inside = h.inside; last = h.last; small = h.small }
+
 pub points : (n p : ℕ) (cs : List ℕ) → pointer n cs ≡ Some p → n + length cs ≤ 10 → Points n p
 points n p [] e h = absurd (pointer_nil n p e)
 points n p (c ∷ cs) e h = go (is_control c) refl (pointer (n + 1) cs) refl (λ q f. points (n + 1) q cs f (omega arith))

@@ -57,6 +57,7 @@ fn octet(before: Character, pointer: Option<u8>, c: Character) -> u8
 }
 
 /// The character of an octet before or at the control that `pointer` names.
+// The octet, its number and the next one side by side, here and below: a struct would be made for these two calls alone.
 fn read_at(pointer: u8, k: usize, octet: u8, next: u8) -> Result<(Character, Ahead), BlockFault>
     ensures { by_number result ≡ read_from pointer k octet next }
 {
@@ -64,9 +65,10 @@ fn read_at(pointer: u8, k: usize, octet: u8, next: u8) -> Result<(Character, Ahe
         let rest = octet / 32 + 8 * (next % 32);
         return Ok((Character::Data(rest), Ahead::Control { pointer }));
     }
-    let Ok(control) = Control::try_from(turn(octet / 32)) else {
-        return Err(BlockFault::ReservedCode { octet: k });
-    };
+    // The fault names the octet, which the error doesn't know.
+    let control = Control::try_from(turn(octet / 32)).map_err(|_| BlockFault::ReservedCode {
+        octet: k,
+    })?;
     let after = if pointer < 16 {
         Ahead::Nothing
     } else {
@@ -85,6 +87,7 @@ fn step(ahead: Ahead, k: usize, octet: u8, next: u8) -> Result<(Character, Ahead
         Ahead::Pointer => {
             let pointer = octet % 32;
             let position = usize::from(pointer % 16);
+            // 25 is position 9 with another control to follow, for which no octet is left.
             if k <= position && position < 10 && pointer != 25 {
                 read_at(pointer, k, octet, next)
             } else {
@@ -95,6 +98,7 @@ fn step(ahead: Ahead, k: usize, octet: u8, next: u8) -> Result<(Character, Ahead
 }
 
 /// The character before octet `k`; octet 0 is as after a control, since a pointer is due there.
+// No Option: none would be treated as a control is, and the clauses put a 256 before the ten.
 fn preceding(characters: &[Character; 10], k: usize) -> Character
     requires { k ≤ 10 }
     ensures { number_of result ≡ slice_index (256 ∷ map number_of characters.now) k }
@@ -133,12 +137,8 @@ pub fn write_block(characters: &[u16], block: &mut [u8]) -> Result<(), BlockFaul
     ensures block_they_make_or_refused { MatchResult result (λ _. Encodes block.new characters.now) (λ e. WriteRefused characters.now block.old (block_refusal e)) }
     ensures refusal_writes_nothing { IfErr result (λ e. block.new ≡ block.old) }
 {
-    let Ok(numbers) = <&[u16; 10]>::try_from(characters) else {
-        return Err(BlockFault::InputLength);
-    };
-    let Some(block) = block.as_mut_array() else {
-        return Err(BlockFault::OutputLength);
-    };
+    let numbers = characters.as_array().ok_or(BlockFault::InputLength)?;
+    let block = block.as_mut_array().ok_or(BlockFault::OutputLength)?;
     let ten = parse(numbers)?;
     fill(&ten, block);
     Ok(())
@@ -156,6 +156,7 @@ fn start(header: u8) -> Result<Ahead, BlockFault>
 }
 
 /// What a reader makes of a character: the character itself or its number.
+// A trait and no From<Character>: the clauses need the number of what is read, of which a From says nothing.
 trait ReadAs: Copy {
     ghost number: { Self → ℕ };
 
@@ -193,8 +194,9 @@ fn read_payload<R: ReadAs>(
 {
     let mut ahead = first;
     // By number: `k` is the octet that a pointer or a fault names. A zip with the octets that follow and the places of `ten` would
-    // count it as well, and of what is written under an adapter of `iter_mut` a proof knows nothing.
+    // count it as well, and of what is written under a zip of `iter_mut` a proof knows nothing.
     for (k, octet) in payload.iter().enumerate() {
+        // 0 where none follows, and no Option: the rule of reading has it so, and the last octet never needs the next.
         let next = payload.get(k + 1).copied().unwrap_or(0);
         let (c, after) = step(ahead, k, *octet, next)?;
         ten[k] = R::of(c);
@@ -230,12 +232,8 @@ pub fn read_block(block: &[u8], characters: &mut [u16]) -> Result<(), BlockFault
     ensures no_other_ten_make_it { OnOk result ((others : List ℕ) → Encodes block.now others → others ≡ characters.new) }
     ensures refusal_writes_nothing { IfErr result (λ e. characters.new ≡ characters.old) }
 {
-    let Ok(block) = <&[u8; 11]>::try_from(block) else {
-        return Err(BlockFault::InputLength);
-    };
-    let Some(characters) = characters.as_mut_array() else {
-        return Err(BlockFault::OutputLength);
-    };
+    let block = block.as_array().ok_or(BlockFault::InputLength)?;
+    let characters = characters.as_mut_array().ok_or(BlockFault::OutputLength)?;
     let mut ten = [0u16; 10];
     read(block, &mut ten)?;
     *characters = ten;

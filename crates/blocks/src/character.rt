@@ -35,6 +35,7 @@ pub struct NoCharacter(pub u16);
 
 impl Control {
     /// The three-bit code.
+    // A method and no From: its name says which of a control's two numbers it is.
     pub fn code(self) -> u8
         ensures three_bit_code { result ≡ code_of self }
     {
@@ -64,6 +65,7 @@ impl TryFrom<u16> for Character {
     ghost try_from_gives = { CharacterOf };
 
     fn try_from(number: u16) -> Result<Self, NoCharacter> {
+        // Each number written out: by Control::try_from the 256 would be taken off, and one error turned into the other.
         match number {
             0..=255 => Ok(Character::Data(number as u8)),
             256 => Ok(Character::Control(Control::NotReady)),
@@ -87,6 +89,7 @@ impl From<Character> for u16 {
 }
 
 /// The characters that numbers stand for, or the place of the first that stands for none.
+// A function: between two arrays no TryFrom can be written here.
 pub fn parse<const N: usize>(numbers: &[u16; N]) -> Result<[Character; N], BlockFault>
     ensures their_characters_or_first_place { MatchResult result
         (λ characters. (map number_of characters ≡ numbers.now) × Characters numbers.now)
@@ -96,17 +99,17 @@ pub fn parse<const N: usize>(numbers: &[u16; N]) -> Result<[Character; N], Block
     // By number: `place` is what the fault names. `array::try_from_fn` would count it as well, doesn't promise that the fault it
     // answers is the first, and asks for a bound on N.
     for (place, number) in numbers.iter().enumerate() {
-        let Ok(c) = Character::try_from(*number) else {
-            return Err(BlockFault::NoCharacter { place });
-        };
-        characters[place] = c;
+        characters[place] = Character::try_from(*number).map_err(|_| BlockFault::NoCharacter {
+            place,
+        })?;
     }
     Ok(characters)
 }
 
 /// The place of the first number that is no character.
-// Over numbers: it answers for callers which of theirs would be refused. The first number that is no line symbol is told likewise in
-// codec: one function for both would need a trait for what each clause says. A place for the caller, so no error of a Result.
+// Over numbers: it answers for callers which of theirs would be refused. The first number that is no line symbol, or too large for a
+// code, is told likewise in codec and code: one function for all would need a trait for what each clause says. A place for the caller,
+// so no error of a Result.
 pub fn first_no_character(numbers: &[u16]) -> Option<usize>
     ensures first_place_of_no_character { MatchOption result (Characters numbers.now) (λ place. FirstNoCharacter numbers.now place) }
 {

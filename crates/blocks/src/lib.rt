@@ -1,4 +1,5 @@
 //! Characters, the blocks that carry them, and the cycles that become them.
+// The sizes 10, 11 and 450 stand as numbers, as the promises and callers have them.
 #![tactic(auto)]
 
 mod ahead;

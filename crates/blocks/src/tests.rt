@@ -1,26 +1,29 @@
-//! Worked values.
+//! Worked values. Characters are numbers here, as the calls that are tried take them.
 use crate::{BlockFault, Character, Control, NoCharacter, read_block, write_block};
 use std::test::Fail;
 
-#[test]
-fn ten_ready(rt: HostRuntime) -> Result<(), Fail> {
+/// The block of ten characters, and the ten that are read from it.
+fn there_and_back(characters: &[u16; 10]) -> Result<([u8; 11], [u16; 10]), BlockFault> {
     let mut block = [0u8; 11];
-    write_block(&[258; 10], &mut block)?;
-    assert_eq!(rt; block, [1, 80, 81, 82, 83, 84, 85, 86, 87, 88, 73]);
+    write_block(characters, &mut block)?;
     let mut back = [0u16; 10];
     read_block(&block, &mut back)?;
+    Ok((block, back))
+}
+
+#[test]
+fn ten_ready(rt: HostRuntime) -> Result<(), Fail> {
+    let (block, back) = there_and_back(&[258; 10])?;
+    assert_eq!(rt; block, [1, 80, 81, 82, 83, 84, 85, 86, 87, 88, 73]);
     assert_eq!(rt; back, [258; 10]);
     Ok(())
 }
 
 #[test]
 fn nine_and_an_error(rt: HostRuntime) -> Result<(), Fail> {
-    let mut block = [0u8; 11];
     let tail = [1, 2, 3, 4, 5, 6, 7, 8, 9, 257];
-    write_block(&tail, &mut block)?;
+    let (block, back) = there_and_back(&tail)?;
     assert_eq!(rt; block, [1, 41, 64, 96, 128, 160, 192, 224, 0, 33, 129]);
-    let mut back = [0u16; 10];
-    read_block(&block, &mut back)?;
     assert_eq!(rt; back, tail);
     Ok(())
 }

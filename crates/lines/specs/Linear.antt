@@ -9,6 +9,7 @@ use Rattle.std.specs.Int.Bits.{xor_shifted, xor_assoc}
 pub record Linear (f : ℕ → ℕ) : Type 0 where
   pub keeps : (a b : ℕ) → f (bit_xor a b) ≡ bit_xor (f a) (f b)
 
+-- as in arithmetic: neither crate stands on the other
 swap : (a b c d : ℕ) → bit_xor (bit_xor a b) (bit_xor c d) ≡ bit_xor (bit_xor a c) (bit_xor b d)
 swap a b c d =
     xor_assoc a b (bit_xor c d)

@@ -44,25 +44,25 @@ impl Scrambler {
             state: seed.into(),
         }
     }
-}
 
-// The bits that the next nine moves feed back, the last of them at weight 1. A master feeds
-// back its own new bits after four moves, a slave none before eleven.
-fn fed_back(role: Role, state: u16) -> u16
-    requires { state < 32768 }
-    ensures nine_moves_on { result ≡ state_after role state 9 % 512 }
-{
-    let high = state >> 6;
-    match role {
-        Role::Master => {
-            let taken = high ^ ((state << 5) & 511);
-            taken ^ (taken >> 4) ^ (taken >> 8)
+    // The bits that the next nine moves feed back, the last of them at weight 1. A master feeds
+    // back its own new bits after four moves, a slave none before eleven.
+    fn fed_back(&self) -> u16
+        ensures nine_moves_on { result ≡ state_after self.now.role self.now.state 9 % 512 }
+    {
+        let state = self.state;
+        let high = state >> 6;
+        match self.role {
+            Role::Master => {
+                let taken = high ^ ((state << 5) & 511);
+                taken ^ (taken >> 4) ^ (taken >> 8)
+            }
+            Role::Slave => high ^ ((state >> 2) & 511),
         }
-        Role::Slave => high ^ ((state >> 2) & 511),
     }
 }
 
-// Nine bits in the other order.
+// Nine bits in the other order; a number, as masks are (see `Stream`). Three bits at a time: a loop over three would be longer.
 fn reversed(drawn: u16) -> u16
     requires { drawn < 512 }
     ensures other_order { result ≡ number (reverse (bits 9 drawn)) }
@@ -82,7 +82,7 @@ impl Stream for Scrambler {
     // there now, and then eight of the nine that are fed back.
     fn next(&mut self) -> u16 {
         let state = self.state;
-        let fed = fed_back(self.role, state);
+        let fed = self.fed_back();
         let drawn = ((state & 1) << 8) ^ (fed >> 1);
         self.state = ((state & 63) << 9) ^ fed;
         reversed(drawn)

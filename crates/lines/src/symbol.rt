@@ -27,7 +27,7 @@ impl Symbol {
     /// 1
     pub const PLUS: Symbol = Symbol { value: 1 };
 
-    // The symbol of a number that is one.
+    // The symbol of a number that is known to be one: try_from would answer an Err that cannot occur.
     pub(crate) fn of(value: i8) -> Symbol
         requires one_of_three { T (is_line_symbol value) }
         ensures has_the_value { result.value ≡ value }

@@ -5,6 +5,7 @@ ghost use Rattle.refusal.specs.declared.kinds.Refusal.{Refusal};
 use crate::kinds::Refusal;
 
 /// Why a call is refused, in the terms of the part that refuses.
+// A trait of its own and no From: callers and promises know the method by its name.
 pub trait Fault {
     // The number, layer and place of each fault.
     ghost told: { Self → Refusal };

@@ -19,9 +19,11 @@ pub enum Layer {
 /// What a caller is told: the refusal's number, the layer and the place within it.
 #[derive(Clone, Copy, PartialEq, Eq, Debug)]
 pub struct Refusal {
-    // A number, since callers and recordings know a refusal by it. Within the layers faults are enums; this is what is told of them.
+    // A number, since callers and recordings know a refusal by it. Within the layers faults are enums; this is what is told of them,
+    // and each number stands where its fault is told.
     pub number: u8,
     pub layer: Layer,
+    // 0 where a fault has no place, and no Option: callers and recordings know a refusal by number, layer and place.
     pub place: usize,
 }
 
@@ -38,7 +40,13 @@ impl Refusal {
     }
 }
 
+// By hand, here and below: `thiserror` would print the same, without a contract for what is printed.
 impl fmt::Display for Layer {
+    ghost use Rattle.std.specs.Prelude.{Some};
+    ghost use Rattle.refusal.specs.Texts.{layer_text};
+
+    ghost output = { λ layer. Some (layer_text layer) };
+
     fn fmt<W: fmt::Write>(&self, f: &mut fmt::Formatter<W>) -> fmt::Result {
         f.write_str(match self {
             Layer::Making => "making",
@@ -53,6 +61,11 @@ impl fmt::Display for Layer {
 }
 
 impl fmt::Display for Refusal {
+    ghost use Rattle.std.specs.Prelude.{Some};
+    ghost use Rattle.refusal.specs.Texts.{refusal_text};
+
+    ghost output = { λ r. Some (refusal_text r) };
+
     fn fmt<W: fmt::Write>(&self, f: &mut fmt::Formatter<W>) -> fmt::Result {
         write!(
             f,
