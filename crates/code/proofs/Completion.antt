@@ -43,9 +43,9 @@ module _ {F : Operations} (laws : Lawful F) where
   }
 
   -- the register, copied over the end of the word
-  pub completed : (w register copy : List ℕ) → Word w → length register ≡ parity → ((i : ℕ) → get_or register i 0 < elements) → Divided F parity (take message_length w) register
-      → copy ≡ register → Completed F w (put_mid message_length parity w copy)
-  completed w register copy hw lr sr d copied =
+  pub completed : (w register copy : List ℕ) (n : ℕ) → length w ≤ message_length + n → Word w → length register ≡ parity → ((i : ℕ) → get_or register i 0 < elements) → Divided F parity (take message_length w) register
+      → copy ≡ register → Completed F w (put_mid message_length n w copy)
+  completed w register copy n room hw lr sr d copied =
       let front = take message_length w in
       let lt : length front ≡ message_length = length-take-le message_length w (omega (arith, hw.full)) in
       let code : Codeword F (front ++ register) = whole_codeword front register (omega arith) (take_small message_length w hw.small) sr d in
@@ -59,7 +59,7 @@ module _ {F : Operations} (laws : Lawful F) where
             let far : distance v (front ++ register) ≤ length v - message_length = same_front v (front ++ register) message_length l (omega (arith, hv.word.full)) (e ∙ sym kept) in
             uniquely v (front ++ register) hv code (omega (arith, hv.word.full));
       } in
-      subst (Completed F w) (sym (put_end message_length parity w copy register (omega (arith, hw.full)) copied)) done
+      subst (Completed F w) (sym (put_end message_length n w copy register room copied)) done
 
   -- a word and a short polynomial with the same values at the first powers of α
   module _ (w p : List ℕ) (hw : Word w) (lp : length p ≡ parity) (pb : (k : ℕ) → get_or p k 0 < elements)

@@ -1,8 +1,9 @@
 -- In how many places two words differ. Assumes nothing.
+use mir.Val.{bool_byte}
 use Rattle.std.proofs.Common.{◌≡◌, ℕ, zero, suc, ◌+◌, ◌-◌, ◌<◌, ◌≤◌, Bool, true, false, cond, not, eqb, ◌≢◌, List, [], ◌∷◌, length, get_or, take, drop, filter, sym, refl, ap, ◌∙◌, subst, arith, eq-eqb, eqb-true}
 use native.Mathlib.Decide.{ℕ_discrete}
 use borrow.Author.Tests.{eqb-false, not-true, not-false}
-use Rattle.std.specs.List.{zip, AllByRecursion}
+use Rattle.std.specs.List.{AllByRecursion}
 use Rattle.std.proofs.lemmas.List.{drop_more}
 use Rattle.code.specs.Words.{coefficient, below, distance}
 
@@ -85,20 +86,18 @@ same_front (a ∷ u) (b ∷ v) (suc m) l h e =
     let t : eqb a b ≡ true = eq-eqb a b head in
     rw t (omega (arith, same_front u v m (omega arith) (omega arith) tail))
 
--- the distance counts the pairs that are not alike
-pub distance_zip : (u v : List ℕ) → length u ≡ length v → length (filter (λ p. not (eqb p.0 p.1)) (zip u v)) ≡ distance u v
-unfolding distance
-distance_zip [] [] l = refl
-distance_zip [] (b ∷ v) l = absurd (omega arith)
-distance_zip (a ∷ u) [] l = absurd (omega arith)
-distance_zip (a ∷ u) (b ∷ v) l = count (eqb a b) (distance_zip u v (omega arith))
-  where
-    rest : List (ℕ × ℕ)
-    rest = filter (λ p. not (eqb p.0 p.1)) (zip u v)
+-- a pair that is not alike counts as one
+pub one_at_most : (b : Bool) → bool_byte b ≤ 1
+one_at_most true = omega arith
+one_at_most false = omega arith
 
-    count : (t : Bool) → length rest ≡ distance u v → length (cond (not t) ((a, b) ∷ rest) rest) ≡ cond t 0 1 + distance u v
-    count true e = omega arith
-    count false e = omega arith
+pub counted : (x y : ℕ) (u v : List ℕ) → bool_byte (not (eqb x y)) + distance u v ≡ distance (x ∷ u) (y ∷ v)
+unfolding distance
+counted x y u v = go (eqb x y) refl
+  where
+    go : (b : Bool) → eqb x y ≡ b → bool_byte (not (eqb x y)) + distance u v ≡ distance (x ∷ u) (y ∷ v)
+    go true e = rw e refl
+    go false e = rw e refl
 
 -- one more place looked at, counted or not
 pub count_more : (u v : List ℕ) (i : ℕ) → i < length u → length u ≡ length v → distance (drop i u) (drop i v) ≡ cond (eqb (get_or u i 0) (get_or v i 0)) 0 1 + distance (drop (i + 1) u) (drop (i + 1) v)

@@ -1,10 +1,11 @@
--- An array that is filled from the front. Assumes nothing.
-use Rattle.std.proofs.Common.{◌≡◌, Iter, ℕ, zero, suc, ◌+◌, ◌<◌, drop, length-drop, ◌≤◌, ◌≢◌, List, [], ◌∷◌, ◌++◌, fold, max, length, get_or, set, sym, ap, ◌∙◌, subst, arith, get_or-set_same, get_or-set_other, below_more}
+-- An array that is filled from the front, and a list read from the front or cut into chunks. Assumes nothing.
+use Rattle.std.proofs.Common.{◌≡◌, Iter, ℕ, zero, suc, ◌+◌, ◌*◌, ◌<◌, take, drop, length-drop, ◌≤◌, ◌≢◌, List, [], ◌∷◌, ◌++◌, fold, max, length, get_or, set, sym, ap, ◌∙◌, subst, mul-zero, arith, get_or-set_same, get_or-set_other, below_more}
 use mathlib.Core.Logic.{◌⊎◌, inl, inr}
 use native.Mathlib.Decide.{ℕ_discrete}
 use denote.Param.Members.{Mut}
 use Rattle.std.specs.Fn.{Called}
-use Rattle.std.proofs.lemmas.List.{drop_more, length_push}
+use Rattle.std.specs.Simd.{first_chunks}
+use Rattle.std.proofs.lemmas.List.{drop_more, drop-drop, length_push}
 use Rattle.std.specs.Array.{IsFromFnResultFrom}
 
 -- one more element
@@ -47,14 +48,33 @@ left_more xs n d s e =
     let both = sym s ∙ e ∙ drop_more xs n d some in
     (some, ap (λ q. get_or q 0 d) both, ap (drop 1) both)
 
-pub left_next : {X Y : Type 0} {left rest : List X} {x : X} (xs : List X) (seen : List Y) (y : Y) → left ≡ x ∷ rest → left ≡ drop (length seen) xs → rest ≡ drop (length (seen ++ (y ∷ []))) xs
-left_next {x} xs seen y s e = (left_more xs (length seen) x s e).2 ∙ ap (λ n. drop n xs) (sym (length_push seen y))
+-- two iterators side by side, over lists of one length, that have come to the place i
+pub record Beside {X Y : Type 0} (xs : List X) (ys : List Y) (left_xs : List X) (left_ys : List Y) (i : ℕ) : Type 0 where
+  pub first : left_xs ≡ drop i xs
+  pub second : left_ys ≡ drop i ys
+  pub inside : i ≤ length xs
 
--- two iterators side by side over lists of one length end where the lists do
-pub zip_done : {X Y : Type 0} (xs : List X) (ys : List Y) (a : Iter X) (b : Iter Y) (i : ℕ)
-    → ((x : Iter X) × ((length a.rest.now ≡ 0) × (x ≡ a))) ⊎ ((y : Iter Y) × ((length b.rest.now ≡ 0) × (y ≡ b)))
-    → a.rest.now ≡ drop i xs → b.rest.now ≡ drop i ys → length ys ≡ length xs → i ≤ length xs → i ≡ length xs
-zip_done xs ys a b i ended ea eb l h = elim ended [
-  | inl e ↦ omega (arith, e.1.0, ap length ea, length-drop i xs)
-  | inr e ↦ omega (arith, e.1.0, ap length eb, length-drop i ys)
+-- both go on by one
+pub beside_next : {X Y Z : Type 0} {xs rest_xs left_xs : List X} {ys rest_ys left_ys : List Y} {x : X} {y : Y} (seen : List Z) (z : Z)
+    → Beside xs ys left_xs left_ys (length seen) → left_xs ≡ x ∷ rest_xs → left_ys ≡ y ∷ rest_ys → Beside xs ys rest_xs rest_ys (length (seen ++ (z ∷ [])))
+beside_next {xs} {ys} {x} {y} seen z b ex ey =
+    let more = length_push seen z in
+    let next_x = left_more xs (length seen) x ex b.first in
+    let next_y = left_more ys (length seen) y ey b.second in
+    record { first = next_x.2 ∙ ap (λ n. drop n xs) (sym more); second = next_y.2 ∙ ap (λ n. drop n ys) (sym more); inside = omega (arith, next_x.0) }
+
+-- they end where the lists do
+pub beside_done : {X Y : Type 0} {xs : List X} {ys : List Y} {a : Iter X} {b : Iter Y} {i : ℕ} → Beside xs ys a.rest.now b.rest.now i
+    → ((x : Iter X) × ((length a.rest.now ≡ 0) × (x ≡ a))) ⊎ ((y : Iter Y) × ((length b.rest.now ≡ 0) × (y ≡ b))) → length ys ≡ length xs → i ≡ length xs
+beside_done {xs} {ys} {i} s ended l = elim ended [
+  | inl e ↦ omega (arith, e.1.0, s.inside, ap length s.first, length-drop i xs)
+  | inr e ↦ omega (arith, e.1.0, s.inside, ap length s.second, length-drop i ys)
 ]
+
+-- chunk k of the first n
+pub chunk_at : {X : Type 0} (size n : ℕ) (xs : List X) (k : ℕ) → k < n → get_or (first_chunks size n xs) k [] ≡ take size (drop (size * k) xs)
+chunk_at size zero xs k h = absurd (omega arith)
+chunk_at size (suc n) xs zero h = ap (λ m. take size (drop m xs)) (sym (mul-zero size))
+chunk_at size (suc n) xs (suc k) h =
+    let far : size + size * k ≡ size * suc k = omega arith in
+    chunk_at size n (drop size xs) k (omega arith) ∙ ap (take size) (drop-drop (size * k) size xs ∙ ap (λ m. drop m xs) far)

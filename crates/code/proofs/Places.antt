@@ -1,55 +1,46 @@
 -- Places that pass a test, and values of a polynomial by its terms. Assumes nothing.
-use Rattle.std.proofs.Common.{◌≡◌, ℕ, zero, suc, ◌+◌, ◌<◌, ◌≤◌, Bool, true, false, cond, List, [], ◌∷◌, ◌++◌, length, get_or, drop, filter, fold, sym, refl, ap, ◌∙◌, add-zero, add-one, arith, eq-eqb}
+use Rattle.std.proofs.Common.{◌≡◌, ℕ, zero, suc, ◌+◌, ◌<◌, Bool, true, false, ◌==◌, cond, List, [], ◌∷◌, ◌++◌, length, get_or, filter, fold, sym, refl, ap, ◌∙◌, subst, add-zero, add-one, arith, eq-eqb}
 use native.Mathlib.Decide.{ℕ_discrete}
+use Rattle.std.proofs.lemmas.List.{length_push}
 use Rattle.arithmetic.specs.Laws.{Operations, Lawful, power, elements}
 use Rattle.code.specs.Words.{below}
 use Rattle.code.specs.Polynomials.{eval, eval_monic, total}
 use Rattle.code.specs.Locating.{Terms, zero_at}
 use Rattle.code.proofs.Basic.{plus_zero_left, plus_zero_right, times_one_left, times_zero_right, times_left_comm, power_times}
 use Rattle.code.proofs.Quotients.{eval_monic_value}
-use Rattle.code.proofs.Filled.{left_more}
+use Rattle.code.proofs.Filled.{left_more, Beside}
 use Rattle.code.proofs.Values.{eval_low}
 
--- a place that passes is among those kept
-pub kept_some : (test : ℕ → Bool) (n i : ℕ) → i < n → test i ≡ true → 0 < length (filter test (below n))
-kept_some test zero i h e = absurd (omega arith)
-kept_some test (suc n) i h e = go (test n) refl (λ l. kept_some test n i l e)
-  where
-    go : (b : Bool) → test n ≡ b → (i < n → 0 < length (filter test (below n))) → 0 < length (cond b (n ∷ filter test (below n)) (filter test (below n)))
-    go true t r = omega arith
-    go false t r = elim (ℕ_discrete i n) [
-      | yes s ↦ (let both : true ≡ false = sym e ∙ ap test s ∙ t in let z : ◌≡◌ {A = ℕ} 0 1 = cc in absurd (omega arith))
-      | no d ↦ r (omega arith)
-    ]
+-- one more place looked at: it is kept if it passes
+kept_more : (test : ℕ → Bool) (n : ℕ) {passes : Bool} → test n ≡ passes → filter test (below (n + 1)) ≡ cond passes (n ∷ filter test (below n)) (filter test (below n))
+kept_more test n e = ap (λ m. filter test (below m)) (add-one n) ∙ ap (λ b. cond b (n ∷ filter test (below n)) (filter test (below n))) e
 
--- one more place looked at, kept or not
-pub kept_next : (test : ℕ → Bool) (n : ℕ) → test n ≡ true → filter test (below (n + 1)) ≡ n ∷ filter test (below n)
-kept_next test n e = ap (λ m. filter test (below m)) (add-one n) ∙ ap (λ b. cond b (n ∷ filter test (below n)) (filter test (below n))) e
-
-pub kept_skipped : (test : ℕ → Bool) (n : ℕ) → test n ≡ false → filter test (below (n + 1)) ≡ filter test (below n)
-kept_skipped test n e = ap (λ m. filter test (below m)) (add-one n) ∙ ap (λ b. cond b (n ∷ filter test (below n)) (filter test (below n))) e
-
-kept_fewer : (test : ℕ → Bool) (n m : ℕ) → n ≤ m → length (filter test (below n)) ≤ length (filter test (below m))
-kept_fewer test n zero h = let e : n ≡ 0 = omega arith in let l = ap (λ k. length (filter test (below k))) e in omega arith
-kept_fewer test n (suc m) h = elim (ℕ_discrete n (suc m)) [
-  | yes e ↦ (let l = ap (λ k. length (filter test (below k))) e in omega arith)
-  | no d ↦ go (test m) (kept_fewer test n m (omega arith))
+-- a place that passes is kept beside those before it
+pub kept_before : (test : ℕ → Bool) (i n : ℕ) → i < n → test i ≡ true → length (filter test (below i)) < length (filter test (below n))
+kept_before test i zero h e = absurd (omega arith)
+kept_before test i (suc n) h e = elim (ℕ_discrete i n) [
+  | yes s ↦ subst (λ m. length (filter test (below i)) < length (filter test (below m))) (add-one i ∙ ap suc s) (let l = ap length (kept_more test i e) in omega arith)
+  | no d ↦ go (test n) (kept_before test i n (omega arith) e)
 ]
   where
-    go : (b : Bool) → length (filter test (below n)) ≤ length (filter test (below m)) → length (filter test (below n)) ≤ length (cond b (m ∷ filter test (below m)) (filter test (below m)))
+    go : (b : Bool) → length (filter test (below i)) < length (filter test (below n)) → length (filter test (below i)) < length (cond b (n ∷ filter test (below n)) (filter test (below n)))
     go true l = omega arith
     go false l = l
 
--- a place that is kept has room among at most m
-pub kept_room : (test : ℕ → Bool) (i n m : ℕ) → i < n → test i ≡ true → length (filter test (below n)) ≤ m → length (filter test (below i)) < m
-kept_room test i n m h e few = let more = ap length (kept_next test i e) in let fewer = kept_fewer test (i + 1) n (omega arith) in omega arith
+-- an iterator over the values, beside another, comes to a value: its place is kept if it is zero
+pub zeros_more : {X Y : Type 0} {values left rest : List ℕ} {others left_others : List X} {v : ℕ} {zero : Bool} (seen : List Y) (y : Y) → Beside values others left left_others (length seen)
+    → left ≡ v ∷ rest → (v == 0) ≡ zero
+    → filter (zero_at values) (below (length (seen ++ (y ∷ [])))) ≡ cond zero (length seen ∷ filter (zero_at values) (below (length seen))) (filter (zero_at values) (below (length seen)))
+zeros_more {values} seen y beside come is_zero =
+    let here = left_more values (length seen) 0 come beside.first in
+    ap (λ n. filter (zero_at values) (below n)) (length_push seen y) ∙ kept_more (zero_at values) (length seen) (ap (λ z. z == 0) (sym here.1) ∙ is_zero)
 
--- a zero that an iterator over the values comes to has room among at most m
-pub zero_room : {left rest : List ℕ} {v : ℕ} (values : List ℕ) (i m : ℕ) → left ≡ v ∷ rest → left ≡ drop i values → v ≡ 0 → length (filter (zero_at values) (below (length values))) ≤ m
-    → length (filter (zero_at values) (below i)) < m
-zero_room values i m s e z few =
-    let here = left_more values i 0 s e in
-    kept_room (zero_at values) i (length values) m here.0 (eq-eqb (get_or values i 0) 0 (sym here.1 ∙ z)) few
+-- at a zero one more place is still to be kept
+pub zero_room : {X : Type 0} {values left rest : List ℕ} {others left_others : List X} {v i : ℕ} → Beside values others left left_others i → left ≡ v ∷ rest → v ≡ 0
+    → length (filter (zero_at values) (below i)) < length (filter (zero_at values) (below (length values)))
+zero_room {values} {i} beside come is_zero =
+    let here = left_more values i 0 come beside.first in
+    kept_before (zero_at values) i (length values) here.0 (eq-eqb (get_or values i 0) 0 (sym here.1 ∙ is_zero))
 
 module _ {F : Operations} (laws : Lawful F) where
   infixl 60 ◌⊕◌

@@ -2,7 +2,7 @@
 use Rattle.std.proofs.Common.{◌≡◌, ℕ, ◌+◌, ◌-◌, ◌<◌, List, [], ◌∷◌, ◌++◌, length, get_or, take, drop, set, sym, ap, ◌∙◌, subst, arith, below_more}
 use Rattle.std.proofs.Math.Seq.{drop-length, take-length, take-append_seam, set-append_seam}
 use Rattle.std.proofs.lemmas.List.{drop_more, length-take-le, take-take}
-use Rattle.arithmetic.specs.Laws.{Operations, Lawful}
+use Rattle.arithmetic.specs.Laws.{Operations, Lawful, power}
 use Rattle.std.specs.List.{AllByRecursion}
 use Rattle.std.proofs.ByRecursion.{All-weaker}
 use Rattle.code.specs.Polynomials.{eval_monic, times_linear}
@@ -17,6 +17,11 @@ last_set xs p n v l e =
     ap (λ r. set (xs ++ r) n v) (drop_more p n 0 inside ∙ ap (λ r. get_or p n 0 ∷ r) (ap (λ m. drop m p) e ∙ drop-length p))
     ∙ ap (λ m. set (xs ++ (get_or p n 0 ∷ [])) m v) (sym l)
     ∙ set-append_seam xs (get_or p n 0) [] v
+
+-- a monic polynomial with as many roots as its degree: the powers of α at the places
+pub record RootsAt (F : Operations) (degree : ℕ) (low places : List ℕ) : Type 0 where
+  pub count : degree ≡ length places
+  pub zeros : AllByRecursion (λ k. eval_monic F (take degree low) (power F F.alpha k) ≡ 0) places
 
 module _ (F : Operations) where
   -- the last turn of the product with x + y
@@ -61,8 +66,12 @@ module _ {F : Operations} (laws : Lawful F) where
       (λ i h. ap (λ r. eval_monic F r (x i)) e ∙ old_root (x j) (x i) (take j p) (z i h))
       (ap (λ r. eval_monic F r (x j)) e ∙ new_root (x j) (take j p))
 
-  pub all_vanish : (x : ℕ → ℕ) (p q : List ℕ) (k : ℕ) (ks : List ℕ) → q ≡ times_linear F (x k) 0 p
-      → AllByRecursion (λ i. eval_monic F p (x i) ≡ 0) ks → AllByRecursion (λ i. eval_monic F q (x i) ≡ 0) (k ∷ ks)
-  all_vanish x p q k ks e z =
-      let P : List ℕ → Type 0 = λ r. AllByRecursion (λ i. eval_monic F r (x i) ≡ 0) (k ∷ ks) in
-      subst P (sym e) (new_root (x k) p, All-weaker _ _ (λ i r. old_root (x k) (x i) p r) ks z)
+  -- times x + α^k: k is one more of the places
+  pub roots_more : {d : ℕ} {low ks : List ℕ} (k : ℕ) (new : List ℕ) → take (d + 1) new ≡ times_linear F (power F F.alpha k) 0 (take d low) → RootsAt F d low ks → RootsAt F (d + 1) new (k ∷ ks)
+  roots_more {d} {low} {ks} k new e r =
+      let x = power F F.alpha in
+      let Zero : List ℕ → Type 0 = λ p. AllByRecursion (λ i. eval_monic F p (x i) ≡ 0) (k ∷ ks) in
+      record {
+        count = omega (arith, r.count);
+        zeros = subst Zero (sym e) (new_root (x k) (take d low), All-weaker _ _ (λ i z. old_root (x k) (x i) (take d low) z) ks r.zeros);
+      }

@@ -1,8 +1,7 @@
 -- The register that divides a word by the generator polynomial. Assumes nothing.
-use Rattle.std.proofs.Common.{◌≡◌, ℕ, zero, suc, ◌+◌, ◌*◌, ◌<◌, List, [], ◌∷◌, ◌++◌, length, get_or, take, drop, replicate, sym, refl, ap, ◌∙◌, add-one, arith, take-append-drop}
+use Rattle.std.proofs.Common.{◌≡◌, ℕ, zero, suc, ◌+◌, ◌<◌, List, [], ◌∷◌, ◌++◌, length, get_or, take, drop, replicate, sym, refl, ap, ◌∙◌, add-one, arith, take-append-drop}
 use native.Mathlib.Decide.{dec_lt}
-use Rattle.std.specs.Simd.{first_chunks}
-use Rattle.std.proofs.lemmas.List.{take_more, get_or-take, get_or-drop, length_push, get_or_past, ext_get_or}
+use Rattle.std.proofs.lemmas.List.{take_more, length_push, get_or_past, ext_get_or}
 use Rattle.arithmetic.specs.Laws.{Operations, Lawful, power, elements}
 use Rattle.code.specs.Polynomials.{value, added, advanced}
 use Rattle.code.specs.Prepared.{Multiples, Divided}
@@ -16,12 +15,6 @@ zeros_zero (suc n) (suc k) = zeros_zero n k
 
 pub zeros_small : (n k : ℕ) → get_or (replicate n 0) k 0 < elements
 zeros_small n k = omega (arith, zeros_zero n k)
-
--- the pairs that a list begins with
-pub pair_at : (xs : List ℕ) (n i k : ℕ) → i < n → k < 2 → get_or (get_or (first_chunks 2 n xs) i []) k 0 ≡ get_or xs (2 * i + k) 0
-pair_at xs zero i k h l = absurd (omega arith)
-pair_at xs (suc n) zero k h l = get_or-take 2 xs k 0 l ∙ (let e : k ≡ 2 * 0 + k = omega arith in ap (λ m. get_or xs m 0) e)
-pair_at xs (suc n) (suc i) k h l = pair_at (drop 2 xs) n i k (omega arith) l ∙ get_or-drop 2 xs (2 * i + k) 0 ∙ (let e : 2 + (2 * i + k) ≡ 2 * suc i + k = omega arith in ap (λ m. get_or xs m 0) e)
 
 module _ {F : Operations} (laws : Lawful F) where
   infixl 60 ◌⊕◌

@@ -22,6 +22,7 @@ pub enum CodeFault {
 #[derive(Clone, Copy, PartialEq, Eq, Debug)]
 pub struct BeyondRepair;
 
+// By hand: the From that `thiserror` derives has no contract, and the proofs cite this one's.
 impl From<BeyondRepair> for CodeFault {
     ghost from_gives = { λ _ fault. fault ≡ CodeFault.BeyondRepair };
 

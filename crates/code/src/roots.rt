@@ -40,7 +40,8 @@ impl<A: Arithmetic> Code<A> {
             (i : ℕ) → i < word_length → slice_index result i ≡ eval_monic f (poly p.now) (power f f.alpha i) }
     {
         let mut all = first_terms(&self.arithmetic, p);
-        // The terms that there are, of an array for as many as there may be: no memory is asked for.
+        // The terms that there are, of an array for as many as there may be: no memory is asked for. An `ArrayVec` is no plainer: the terms
+        // are made at once, and their number stays.
         let terms = &mut all[..=p.degree];
         let mut values = [0u16; SYMBOLS];
         for value in values.iter_mut() {
@@ -59,7 +60,7 @@ impl<A: Arithmetic> Code<A> {
             (filter (zero_at values.now) (below (length values.now))) }
     {
         // Tried as one `Monic` whose fields the loop writes: once a part of its array was lent and its degree written, the proof
-        // had no fact of the array any more.
+        // had no fact of the array any more. The degree is counted since it is a part of the answer.
         let mut low = [0u16; REACH];
         let mut degree = 0;
         for (value, point) in values.iter().zip(&self.tables.points) {

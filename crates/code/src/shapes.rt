@@ -18,7 +18,8 @@ pub(crate) struct Tables {
 }
 
 /// The sums 0 to 43 of a word.
-// Registers, remainders and terms have no such type: it would be wrapped and unwrapped at each call.
+// Registers, remainders and terms have no such type, nor have these sums while they are worked out (`horner_step`): it would be wrapped
+// and unwrapped at each call.
 #[derive(Clone, Copy)]
 pub(crate) struct Syndromes {
     pub(crate) sums: [u16; PARITY],

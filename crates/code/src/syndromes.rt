@@ -25,6 +25,7 @@ impl<A: Arithmetic> Code<A> {
     }
 
     /// One step of Horner's rule at each of the first powers of alpha.
+    // Totals and no `Syndromes`: see there.
     fn horner_step(&self, totals: &mut [u16; PARITY], c: u16)
         requires { (j : ℕ) → j < parity → slice_index totals.old j < elements }
         ensures small { (j : ℕ) → j < parity → slice_index totals.new j < elements }

@@ -10,7 +10,8 @@ use crate::sizes::{ELEMENTS, PARITY, SYMBOLS};
 use arithmetic::Arithmetic;
 use std::array;
 
-// There is no code yet that could hold these facts of its tables, so that each function asks for those that it needs.
+// There is no code yet that could hold these facts of its tables, so that each function asks for those that it needs: a type for a table
+// would have to hold the arithmetic, and the code would take it apart again.
 
 fn powers<A: Arithmetic>(a: &A) -> [u16; SYMBOLS]
     ensures { Powers (A.field a.now) result }
@@ -61,8 +62,10 @@ fn multiple<A: Arithmetic>(a: &A, k: u16, g: &[u16; PARITY]) -> [u16; PARITY]
 }
 
 /// The multiples of the generator polynomial without its leading term.
-// Filled as `steps` is: one function for both sizes and facts has longer clauses than the loops. `array::from_fn` was tried for both;
-// each row is the answer of another function, and the proof knew nothing of it. The cast: `u16::try_from` would answer an Err that cannot occur.
+// Filled as `steps` is: one function for both sizes and facts has longer clauses than the loops. `array::from_fn(|k| multiple(a, k as u16, g))`
+// proves only with a contract on the closure (its index is in range, what it holds stays as it is, the length of the row, the row), since
+// nothing else is known of a closure over a type parameter that calls a function of ours. The cast: `u16::try_from` would answer an Err
+// that cannot occur.
 fn multiples<A: Arithmetic>(a: &A, g: &[u16; PARITY]) -> [[u16; PARITY]; ELEMENTS]
     requires { let f = A.field a.now in Vanishes f (power f f.alpha) parity g.now }
     ensures { Multiples (A.field a.now) parity result }

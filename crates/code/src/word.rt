@@ -1,8 +1,8 @@
 //! Words: 450 symbols, each an element.
-ghost use Rattle.std.specs.Prelude.{◌≡◌, ℕ, ◌<◌, MatchOption, slice_index};
+ghost use Rattle.std.specs.Prelude.{◌≡◌, ℕ, ◌<◌, MatchOption, MatchResult, slice_index};
 ghost use Rattle.arithmetic.specs.Laws.{elements};
 ghost use Rattle.code.specs.Words.{word_length, Word as IsWord};
-ghost use Rattle.code.specs.Faults.{FirstTooLarge};
+ghost use Rattle.code.specs.Faults.{FirstTooLarge, Misshapen, code_refusal};
 
 use crate::fault::CodeFault;
 use crate::sizes::{ELEMENTS, SYMBOLS};
@@ -20,7 +20,8 @@ fn first_too_large(symbols: &[u16; SYMBOLS]) -> Option<usize>
         ((k : ℕ) → k < word_length → slice_index symbols.now k < elements)
         (λ place. FirstTooLarge symbols.now place) }
 {
-    // The largest is found without a branch for each symbol, and nearly every word is right.
+    // The largest is found without a branch for each symbol, and nearly every word is right. A fold: `max()` answers an Option, whose None
+    // no word has.
     let largest = symbols.iter().fold(0, |most, symbol| (*symbol).max(most));
     if usize::from(largest) < ELEMENTS {
         return None;
@@ -30,22 +31,27 @@ fn first_too_large(symbols: &[u16; SYMBOLS]) -> Option<usize>
         .position(|symbol| usize::from(*symbol) >= ELEMENTS)
 }
 
+/// The symbols of a list that is a word.
+pub(crate) fn check(list: &[u16]) -> Result<&[u16; SYMBOLS], CodeFault>
+    ensures { MatchResult result
+        (λ symbols. (symbols.now ≡ list.now) × IsWord list.now)
+        (λ e. Misshapen list.now (code_refusal e)) }
+{
+    let symbols = list.as_array().ok_or(CodeFault::Length)?;
+    match first_too_large(symbols) {
+        Some(place) => Err(CodeFault::SymbolTooLarge { place }),
+        None => Ok(symbols),
+    }
+}
+
 /// The word of 450 symbols, each an element.
 impl TryFrom<&[u16]> for Word {
-    ghost use Rattle.std.specs.Prelude.{MatchResult};
-    ghost use Rattle.code.specs.Faults.{Misshapen, code_refusal};
-
     type Error = CodeFault;
 
     ghost try_from_gives = { λ symbols r. MatchResult r (λ word. word.symbols ≡ symbols.now) (λ e. Misshapen symbols.now (code_refusal e)) };
 
     fn try_from(symbols: &[u16]) -> Result<Self, CodeFault> {
-        let Some(symbols) = symbols.as_array() else {
-            return Err(CodeFault::Length);
-        };
-        match first_too_large(symbols) {
-            Some(place) => Err(CodeFault::SymbolTooLarge { place }),
-            None => Ok(Word { symbols: *symbols }),
-        }
+        let symbols = check(symbols)?;
+        Ok(Word { symbols: *symbols })
     }
 }

@@ -8,7 +8,8 @@ ghost use Rattle.code_c.specs.Batches.{word_at, Answered};
 use arithmetic::Tabled;
 use code::Code;
 
-/// The symbols of a word. The code has the number for itself.
+/// The symbols of a word.
+// As the code has it for itself: a public name would be one more to look up, since the clause says 450 all the same.
 const SYMBOLS: usize = 450;
 
 /// What is answered in place of a number of symbols when a word is refused.
@@ -16,6 +17,7 @@ const SYMBOLS: usize = 450;
 const REFUSED: usize = 1000;
 
 /// Completes or repairs a word; answers how many symbols the repair changed.
+// The bool as a caller in C hands it over, see `code_run_words`.
 fn run_one(code: &Code<Tabled>, word: &mut [u16], completing: bool) -> usize
     ensures { Answered polynomials completing word.old word.new result }
 {
@@ -28,7 +30,8 @@ fn run_one(code: &Code<Tabled>, word: &mut [u16], completing: bool) -> usize
 }
 
 /// Completes or repairs each word, and writes its answer at its place.
-// A bool chooses the step, and the words stand one after the other in one slice: that is what a caller in C can hand over.
+// A bool chooses the step, the words stand one after the other in one slice and their answers in another: that is what a caller in C
+// can hand over.
 #[unsafe(no_mangle)]
 pub extern "C" fn code_run_words(words: &mut [u16], answers: &mut [usize], completing: bool)
     ensures each { (k : ℕ) → k < length answers.old → 450 * k + 450 ≤ length words.old → Answered polynomials completing (word_at words.old k) (word_at words.new k) (slice_index answers.new k) }

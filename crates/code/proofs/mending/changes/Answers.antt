@@ -1,14 +1,32 @@
-use Rattle.std.proofs.Common.{not, eqb, sym, ◌∙◌, rules}
-use borrow.Author.Tests.{tests}
-use Rattle.std.proofs.lemmas.Iterator.{YieldsList-from_slice, YieldsList-from_zip}
-use Rattle.std.proofs.lemmas.Iterator.Consumers.{YieldsList-from_filter, count_from_yields_List}
-use Rattle.code.proofs.Distances.{distance_zip}
+use Rattle.std.proofs.Common.{length, not, eqb, inl, inr, ap, ap₂, arith, rules}
+use Rattle.code.specs.Words.{distance}
+use Rattle.code.proofs.Distances.{distance_most, one_at_most, counted}
 use Rattle.code.proofs.mending.changes.Goals as goal
+
+pub loop-x-init : goal.loop-x-init
+loop-x-init c = search rules
+
+pub overflow_add-count : goal.overflow_add-count
+overflow_add-count c = omega (arith, one_at_most (not (eqb c.in-Some.x.now c.in-Some.y.now)), c.loop-x.invariant.1)
+
+pub loop-x-preserved : goal.loop-x-preserved
+loop-x-preserved c =
+    let x = c.in-Some.x.now in
+    let y = c.in-Some.y.now in
+    let u = c.next.new.self.a.rest.now in
+    let v = c.next.new.self.b.rest.now in
+    let (left, right) = c.in-Some.ensures.steps in
+    let (same, room, so_far) = c.loop-x.invariant in (
+      omega (arith, same, ap length left, ap length right),
+      omega (arith, room, ap length left, c.from-count.ensures, one_at_most (not (eqb x y))),
+      omega (arith, so_far, ap₂ distance left right, c.from-count.ensures, counted x y u v),
+    )
 
 pub returns : goal.returns
 returns c =
-    let u = c.args.u.now.symbols in
-    let v = c.args.v.now.symbols in
-    count_from_yields_List _ _ c.count.ensures.ran
-    (YieldsList-from_filter _ (λ p. not (eqb p.0 p.1)) (YieldsList-from_zip (YieldsList-from_slice u cc) (YieldsList-from_slice v (let e = c.zip.ensures.second.0 in cc))) c.filter.ensures.closure (λ x b q k. search (rules, tests)))
-    ∙ distance_zip u v (c.args.u.now.elements.full ∙ sym c.args.v.now.elements.full)
+    let (same, room, so_far) = c.loop-x.invariant in
+    let none = distance_most c.loop-x.x-iterator.a.rest.now c.loop-x.x-iterator.b.rest.now same in
+    elim c.in-None.ensures.steps [
+      | inl e ↦ omega (arith, so_far, none, e.1.0)
+      | inr e ↦ omega (arith, so_far, none, same, e.1.0)
+    ]

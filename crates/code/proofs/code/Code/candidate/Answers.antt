@@ -4,7 +4,7 @@ use Rattle.std.specs.List.{AllByRecursion}
 use Rattle.arithmetic.specs.Laws.{power}
 use Rattle.code.specs.Polynomials.{eval_monic}
 use Rattle.code.specs.Locating.{poly, zero_at}
-use Rattle.code.proofs.Places.{kept_some}
+use Rattle.code.proofs.Places.{kept_before}
 use Rattle.code.proofs.Nearest.{few_zeros, nearest, zeros_roots}
 use Rattle.code.proofs.code.Code.candidate.Goals as goal
 
@@ -17,7 +17,7 @@ product_over_zeros-product-requires g c =
 pub mend-requires : goal.mend-requires
 mend-requires g c = λ i h z.
     let values = c.values-values.result in
-    omega (arith, kept_some (zero_at values) (length values) i (omega arith) (eq-eqb (get_or values i 0) 0 z), c.product_over_zeros-product.ensures.degree)
+    omega (arith, kept_before (zero_at values) i (length values) (omega arith) (eq-eqb (get_or values i 0) 0 z), c.product_over_zeros-product.ensures.degree)
 
 pub returns : goal.returns
 returns g c = λ v hv near.

@@ -1,10 +1,11 @@
 use Rattle.std.proofs.Common.{◌≡◌, ℕ, ◌+◌, ◌*◌, ◌/◌, ◌<◌, List, [], ◌∷◌, ◌++◌, length, get_or, take, drop, sym, refl, ap, ◌∙◌, subst, arith}
 use Rattle.std.specs.Simd.{first_chunks}
-use Rattle.std.proofs.lemmas.List.{length-take-le, get_or-take}
+use Rattle.std.proofs.lemmas.List.{length-take-le, get_or-take, get_or-drop}
 use Rattle.code.specs.Polynomials.{advanced}
 use Rattle.code.specs.Prepared.{Divided}
 use Rattle.code.proofs.Values.{added_small}
-use Rattle.code.proofs.Registers.{zeros_small, divided_none, divided_more, advanced_at, length_advanced, pair_at}
+use Rattle.code.proofs.Filled.{chunk_at}
+use Rattle.code.proofs.Registers.{zeros_small, divided_none, divided_more, advanced_at, length_advanced}
 use Rattle.code.proofs.code.Code.divide.Goals as goal
 
 pub loop-x-init : goal.loop-x-init
@@ -33,9 +34,10 @@ loop-x-preserved g c =
     let cut : pairs ≡ first_chunks 2 203 (take 406 word) = c.as_chunks.ensures.front ∙ ap (λ n. first_chunks 2 (n / 2) (take 406 word)) front in
     let count : length pairs ≡ 203 = c.as_chunks.ensures.front_len ∙ ap (λ n. n / 2) front in
     let inside : i < 203 = omega (arith, c.loop-x-test.true) in
+    let pair : get_or pairs i [] ≡ take 2 (drop (2 * i) (take 406 word)) = ap (λ q. get_or q i []) cut ∙ chunk_at 2 203 (take 406 word) i inside in
     let symbol : (n : ℕ) → n < 2 → get_or (get_or pairs i []) n 0 ≡ get_or word (2 * i + n) 0 = λ n l.
     let low : 2 * i + n < 406 = omega arith in
-    ap (λ q. get_or (get_or q i []) n 0) cut ∙ pair_at (take 406 word) 203 i n inside l ∙ get_or-take 406 word (2 * i + n) 0 low in
+    ap (λ q. get_or q n 0) pair ∙ get_or-take 2 (drop (2 * i) (take 406 word)) n 0 l ∙ get_or-drop (2 * i) (take 406 word) n 0 ∙ get_or-take 406 word (2 * i + n) 0 low in
     let at_one : 2 * i + 0 ≡ 2 * i = omega arith in
     let one_in : 2 * i < length word = omega arith in
     let two_in : 2 * i + 1 < length word = omega arith in
