@@ -3,7 +3,7 @@ use Rattle.std.proofs.Common.{◌≡◌, ℕ, ◌<◌, Bool, true, false, cond, 
 use Rattle.std.specs.List.{flat_map, prefix_len, AllByRecursion}
 use Rattle.codec.specs.Calls.{Call, send, sender_rest, receive, receiver_rest, fault_if, without_lock, wrong_length, wrong_number, checks, faults, beyond_repair, is_period, is_character, Performs, Answers, Accepts, GivesUp}
 use Rattle.codec.specs.Ends.{End}
-use Rattle.codec.specs.Histories.{Event, Sends, Receives, at_sender, sender_periods, receiver_periods, lock_from}
+use Rattle.codec.specs.Histories.{Event, Occurs, Sends, Receives, at_sender, sender_periods, receiver_periods, lock_from}
 use Rattle.codec.specs.Law.{EveryCallAnswers, BeyondRepairExactlyWhenNoneNear, Refuses, RefusedExactly}
 use Rattle.codec.specs.Refusals.{end_refusal}
 use Rattle.codec.specs.Lines.{NoneNear}
@@ -120,16 +120,17 @@ stated (f ∷ more) left asked outcome fault p h = ((λ e. ap fault_in (sym e �
 never : {X : Type 0} (outcome : Outcome) (fault : EndFault) → outcome ≡ Done → (outcome ≡ Refused fault) ↔ (⊥ × X)
 never outcome fault e = (not_refused outcome Done fault e refl, λ p. absurd p.0)
 
-module _ (sender receiver : End) (ks kr : ℕ) (lock : Lock) (left : Call) (outcome : Outcome) (fault : EndFault) where
-  abbrev Answered : Call → Type 0
-  Answered c = cond (at_sender c) (Answers sender ks lock c left outcome) (Answers receiver kr lock c left outcome)
+-- a call is answered by the rule of the end that it asks
+abbrev Answered : (sender receiver : End) (ks kr : ℕ) (lock : Lock) (left : Call) (outcome : Outcome) → Call → Type 0
+Answered sender receiver ks kr lock left outcome c = cond (at_sender c) (Answers sender ks lock c left outcome) (Answers receiver kr lock c left outcome)
 
+module _ (sender receiver : End) (ks kr : ℕ) (lock : Lock) (left : Call) (outcome : Outcome) (fault : EndFault) where
   gave_up : (line : List ℤ) → Accepts receiver kr line left outcome ⊎ GivesUp receiver kr line left outcome
       → (outcome ≡ Refused fault) ↔ (NoneNear receiver kr line × (fault ≡ beyond_repair))
   gave_up line (inl a) = (not_refused outcome _ fault a.reports refl, λ p. absurd (p.0 a.word a.near))
   gave_up line (inr g) = ((λ e. (g.none_near, ap fault_in (sym e ∙ g.reports))), (λ p. g.reports ∙ ap Refused (sym p.1)))
 
-  pub refused_where : (c : Call) → Answered c → (outcome ≡ Refused fault) ↔ Refuses receiver kr lock c fault
+  pub refused_where : (c : Call) → Answered sender receiver ks kr lock left outcome c → (outcome ≡ Refused fault) ↔ Refuses receiver kr lock c fault
   refused_where (send characters symbol line) h =
       stated {Y = ⊥} (faults lock (send characters symbol line)) left (send characters symbol line) outcome fault (λ p. never outcome fault p.3) h
   refused_where (sender_rest line) h = stated {Y = ⊥} (faults lock (sender_rest line)) left (sender_rest line) outcome fault (λ p. never outcome fault p.1) h
@@ -144,7 +145,7 @@ kept [] left asked outcome p h = p h
 kept (f ∷ more) left asked outcome p h = h.0
 
 module _ (sender receiver : End) (ks kr : ℕ) (lock : Lock) (left : Call) (outcome : Outcome) (fault : EndFault) (r : outcome ≡ Refused fault) (small : (end_refusal fault).number < 7) where
-  pub kept_where : (c : Call) → Answered sender receiver ks kr lock left outcome fault c → left ≡ c
+  pub kept_where : (c : Call) → Answered sender receiver ks kr lock left outcome c → left ≡ c
   kept_where (send characters symbol line) h =
       kept (faults lock (send characters symbol line)) left (send characters symbol line) outcome (λ p. not_refused outcome Done fault p.3 refl r) h
   kept_where (sender_rest line) h = kept (faults lock (sender_rest line)) left (sender_rest line) outcome (λ p. not_refused outcome Done fault p.1 refl r) h
@@ -156,16 +157,17 @@ module _ (sender receiver : End) (ks kr : ℕ) (lock : Lock) (left : Call) (outc
   kept_where receiver_rest h = kept (faults lock receiver_rest) left receiver_rest outcome (λ p. not_refused outcome Done fault p.1 refl r) h
 
 module _ (sender receiver : End) (lock : Lock) (events : List Event) (answers : EveryCallAnswers sender receiver lock events) where
+  -- of a call of which it is known what was asked
+  answered : (ahead : List Event) (event : Event) (asked : Call) → Occurs events ahead event → event.asked ≡ asked
+      → Answered sender receiver (sender_periods ahead) (receiver_periods ahead) (lock_from lock ahead) event.left event.outcome asked
+  answered ahead event asked o e = subst (Answered sender receiver (sender_periods ahead) (receiver_periods ahead) (lock_from lock ahead) event.left event.outcome) e (answers ahead event o)
+
   pub received : (period : ℕ) (line : List ℤ) (event : Event) (r : Receives events period line event)
       → Performs receiver period (receive line r.characters r.places) event.left event.outcome
   received period line event r =
       let asked = receive line r.characters r.places in
-      let here : Answers receiver (receiver_periods r.ahead) (lock_from lock r.ahead) asked event.left event.outcome =
-      subst (λ c. cond (at_sender c)
-      (Answers sender (sender_periods r.ahead) (lock_from lock r.ahead) c event.left event.outcome)
-      (Answers receiver (receiver_periods r.ahead) (lock_from lock r.ahead) c event.left event.outcome)) r.asked (answers r.ahead event r.occurs) in
       subst (λ k. Performs receiver k asked event.left event.outcome) r.counted
-      (performed (faults (lock_from lock r.ahead) asked) event.left asked event.outcome (early (lock_from lock r.ahead) asked) here r.was_period)
+      (performed (faults (lock_from lock r.ahead) asked) event.left asked event.outcome (early (lock_from lock r.ahead) asked) (answered r.ahead event asked r.occurs r.asked) r.was_period)
 
   pub beyond_repair_exactly_when_none_near : BeyondRepairExactlyWhenNoneNear receiver events
   beyond_repair_exactly_when_none_near period line event r = (there, back)
@@ -194,9 +196,7 @@ module _ (sender receiver : End) (lock : Lock) (events : List Event) (answers : 
     asked_send = send characters symbol s.buffer
 
     answered_send : Answers sender (sender_periods s.ahead) (lock_from lock s.ahead) asked_send s.event.left s.event.outcome
-    answered_send = subst (λ c. cond (at_sender c)
-        (Answers sender (sender_periods s.ahead) (lock_from lock s.ahead) c s.event.left s.event.outcome)
-        (Answers receiver (receiver_periods s.ahead) (lock_from lock s.ahead) c s.event.left s.event.outcome)) s.asked (answers s.ahead s.event s.occurs)
+    answered_send = answered s.ahead s.event asked_send s.occurs s.asked
 
     pub sent : Performs sender period asked_send s.event.left s.event.outcome
     sent = subst (λ k. Performs sender k asked_send s.event.left s.event.outcome) s.counted

@@ -46,11 +46,6 @@ group_from pair mask j (c ∷ word) (suc k) h =
 
 -- numbers upwards
 
-pub upward_push : (k n : ℕ) → upward k (suc n) ≡ upward k n ++ ((k + n) ∷ [])
-unfolding upward
-upward_push k zero = ap (λ x. x ∷ []) (sym (add-zero k))
-upward_push k (suc n) = let at : k + 1 + n ≡ k + suc n = omega arith in ap (λ l. k ∷ l) (upward_push (k + 1) n ∙ ap (λ x. upward (k + 1) n ++ (x ∷ [])) at)
-
 pub upward_join : (k m n : ℕ) → upward k (m + n) ≡ upward k m ++ upward (k + m) n
 unfolding upward
 upward_join k zero n = ap (upward k) (zero-add n) ∙ ap (λ x. upward x n) (sym (add-zero k))

@@ -1,15 +1,13 @@
 -- What it means that a call has no fault, and what its first fault is. Assumes nothing.
-use Rattle.std.proofs.Common.{◌≡◌, ℕ, ◌<◌, ◌≤◌, Bool, true, false, not, eqb, ltb, List, [], ◌∷◌, ◌++◌, length, ℤ, Some, refl, ap, ◌∙◌, inl, inr, arith, None, Err, Option, Result, MatchOption, MutBor, subst}
+use Rattle.std.proofs.Common.{◌≡◌, ℕ, ◌<◌, ◌≤◌, Bool, true, false, not, eqb, ltb, List, [], ◌∷◌, ◌++◌, length, ℤ, Some, refl, ap, ◌∙◌, inl, inr, arith}
 use Rattle.std.specs.List.{prefix_len}
 use Rattle.std.proofs.lemmas.List.Sums.{prefix_len_is, prefix_len_passes}
 use Rattle.std.proofs.lemmas.Bool.{eqb-true, eq-eqb, ne_eqb, ltb-false, lt-ltb, le-ltb, both_ways, false_from_ne_true}
-use Rattle.std.specs.Array.{IsWholeChunk}
-use Rattle.std.specs.Option.{ok_or}
 use Rattle.std.proofs.lemmas.Bool.Decides.{nat_tests}
 use Rattle.blocks.specs.Characters.{Character, Characters, FirstNoCharacter}
 use Rattle.blocks.specs.declared.faults.BlockFault.{BlockFault}
 use Rattle.lines.specs.LineCodes.{is_line_symbol}
-use Rattle.codec.specs.Calls.{send, sender_rest, receive, receiver_rest, is_character, fault_if, wrong_length, wrong_number, faults, first_of}
+use Rattle.codec.specs.Calls.{send, sender_rest, receive, receiver_rest, is_character, fault_if, without_lock, wrong_length, wrong_number, faults, first_of}
 use Rattle.codec.specs.declared.lock.Lock.{Lock}
 use Rattle.codec.specs.declared.lock.Lock.TheVariants.{Locked, Lost}
 use Rattle.codec.specs.declared.faults.LineFault.{LineFault}
@@ -87,27 +85,19 @@ sendable lock characters symbol line e =
       valid = all_leading characters (ltb-false (prefix_len is_character characters) (length characters) (unpassed (ltb (prefix_len is_character characters) (length characters)) (EndFault.Block (BlockFault.NoCharacter (prefix_len is_character characters))) (left_none d [] ds)));
     }
 
--- a receiver's rest
+-- a receiver's lock, and its rest
+
+locked : (lock : Lock) → (lock ≡ Lost → ⊥) → without_lock lock ≡ []
+locked (Locked bad) n = refl
+locked Lost n = absurd (n refl)
 
 pub receiver_rest_found : (lock : Lock) → (lock ≡ Lost → ⊥) → faults lock receiver_rest ≡ []
 unfolding faults
-receiver_rest_found (Locked bad) n = refl
-receiver_rest_found Lost n = absurd (n refl)
+receiver_rest_found lock n = rw (locked lock n)
 
-pub receiver_rest_lost : Starts (faults Lost receiver_rest) EndFault.NoLock
+pub receiver_rest_lost : (lock : Lock) → lock ≡ Lost → Starts (faults lock receiver_rest) EndFault.NoLock
 unfolding faults
-receiver_rest_lost = refl
-
--- a buffer asked for as an array, or else a fault
-
-module _ {A : Type 0} (n : ℕ) (xs : List A) (asked : Option (MutBor (List A))) (cases : MatchOption asked (length xs ≡ n → ⊥) (λ y. IsWholeChunk xs y.now n)) where
-  pub array_found : (a : MutBor (List A)) → asked ≡ Some a → (length xs ≡ n) × (a.now ≡ xs)
-  array_found a e = let whole = subst (λ r. MatchOption r (length xs ≡ n → ⊥) (λ y. IsWholeChunk xs y.now n)) e cases in (whole.long, whole.same)
-
-  pub array_refused : (fault told : EndFault) → asked ≡ None → Err told ≡ ok_or asked fault → (length xs ≡ n → ⊥) × (fault ≡ told)
-  array_refused fault told e h =
-      let same : ◌≡◌ {A = Result (MutBor (List A)) EndFault} (Err told) (Err fault) = h ∙ ap (λ r. ok_or r fault) e in
-      (subst (λ r. MatchOption r (length xs ≡ n → ⊥) (λ y. IsWholeChunk xs y.now n)) e cases, cc)
+receiver_rest_lost lock e = rw e
 
 -- the first fault of a call, check by check
 
@@ -166,31 +156,26 @@ module _ (line : List ℤ) (characters places : List ℕ) where
   abbrev no_line_symbol : ℕ → EndFault
   no_line_symbol place = EndFault.Line (LineFault.NoLineSymbol place)
 
-  pub receive_no_lock : Starts (received Lost) EndFault.NoLock
+  pub receive_no_lock : (lock : Lock) → lock ≡ Lost → Starts (received lock) EndFault.NoLock
   unfolding faults
-  receive_no_lock = refl
+  receive_no_lock lock e = rw e
 
   pub receive_line_length : (lock : Lock) → (lock ≡ Lost → ⊥) → (length line ≡ 2700 → ⊥) → Starts (received lock) (EndFault.Length 0)
   unfolding faults
-  receive_line_length (Locked bad) l n = rw (length_wrong 0 2700 line n)
-  receive_line_length Lost l n = absurd (l refl)
+  receive_line_length lock l n = rw (locked lock l, length_wrong 0 2700 line n)
 
   pub receive_characters_length : (lock : Lock) → (lock ≡ Lost → ⊥) → length line ≡ 2700 → (length characters ≡ 450 → ⊥) → Starts (received lock) (EndFault.Length 1)
   unfolding faults
-  receive_characters_length (Locked bad) l e n = rw (length_right 0 2700 line e, length_wrong 1 450 characters n)
-  receive_characters_length Lost l e n = absurd (l refl)
+  receive_characters_length lock l e n = rw (locked lock l, length_right 0 2700 line e, length_wrong 1 450 characters n)
 
   pub receive_places_length : (lock : Lock) → (lock ≡ Lost → ⊥) → length line ≡ 2700 → length characters ≡ 450 → (length places ≡ 22 → ⊥) → Starts (received lock) (EndFault.Length 2)
   unfolding faults
-  receive_places_length (Locked bad) l e f n = rw (length_right 0 2700 line e, length_right 1 450 characters f, length_wrong 2 22 places n)
-  receive_places_length Lost l e f n = absurd (l refl)
+  receive_places_length lock l e f n = rw (locked lock l, length_right 0 2700 line e, length_right 1 450 characters f, length_wrong 2 22 places n)
 
   pub receive_no_line_symbol : (lock : Lock) → (lock ≡ Lost → ⊥) → (place : ℕ) → length line ≡ 2700 → length characters ≡ 450 → length places ≡ 22 → prefix_len is_line_symbol line ≡ place → place < length line → Starts (received lock) (no_line_symbol place)
   unfolding faults
-  receive_no_line_symbol (Locked bad) k place e f h n l = rw (length_right 0 2700 line e, length_right 1 450 characters f, length_right 2 22 places h, number_wrong is_line_symbol no_line_symbol line place n l)
-  receive_no_line_symbol Lost k place e f h n l = absurd (k refl)
+  receive_no_line_symbol lock k place e f h n l = rw (locked lock k, length_right 0 2700 line e, length_right 1 450 characters f, length_right 2 22 places h, number_wrong is_line_symbol no_line_symbol line place n l)
 
   pub receive_no_fault : (lock : Lock) → (lock ≡ Lost → ⊥) → length line ≡ 2700 → length characters ≡ 450 → length places ≡ 22 → prefix_len is_line_symbol line ≡ length line → received lock ≡ []
   unfolding faults
-  receive_no_fault (Locked bad) l e f h n = rw (length_right 0 2700 line e, length_right 1 450 characters f, length_right 2 22 places h, numbers_right is_line_symbol no_line_symbol line n)
-  receive_no_fault Lost l e f h n = absurd (l refl)
+  receive_no_fault lock l e f h n = rw (locked lock l, length_right 0 2700 line e, length_right 1 450 characters f, length_right 2 22 places h, numbers_right is_line_symbol no_line_symbol line n)

@@ -91,9 +91,6 @@ middle_octet symbols i h s p q =
 abbrev pub High : List ℕ → ℕ → ℕ → Type 0
 High symbols i high = high ≡ 2 ^ (i - 1) * (get_or symbols i 0 % 2 ^ (9 - i))
 
-pub high_next : (symbols : List ℕ) (i high : ℕ) → 0 < i → i < 9 → high ≡ (bit_and (get_or symbols i 0) ((1 * 2 ^ (9 - i)) % 65536 - 1) * 2 ^ (i - 1)) % 65536 → High symbols i high
-high_next symbols i high p q e = e ∙ moved_up (get_or symbols i 0) (9 - i) (i - 1) (omega arith) (omega arith)
-
 pub later_octet : (symbols : List ℕ) (i high : ℕ) → length symbols ≡ 9 → Small symbols → 0 < i → i < 10 → High symbols i high → get_or symbols (i - 1) 0 / 2 ^ (10 - i) + high ≡ get_or (block_from (unpacked 9 symbols)) (1 + i) 0
 later_octet symbols i high h s p q e = elim (cases_lt i 9) [
   | inl l ↦ ap (λ x. get_or symbols (i - 1) 0 / 2 ^ (10 - i) + x) e ∙ sym (middle_octet symbols i h s p l)

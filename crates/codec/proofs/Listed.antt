@@ -1,17 +1,20 @@
 -- Listing, ascending, the numbers that pass a test. Assumes nothing.
-use Rattle.std.proofs.Common.{◌≡◌, ℕ, ◌+◌, ◌-◌, ◌≤◌, Bool, true, false, cond, [], ◌∷◌, ◌++◌, length, filter, refl, ap, ◌∙◌, append-nil, zero-add, add-one, arith, length-append}
+use Rattle.std.proofs.Common.{◌≡◌, ℕ, ◌+◌, ◌-◌, ◌≤◌, Bool, true, false, cond, [], ◌∷◌, ◌++◌, length, filter, refl, sym, ap, ◌∙◌, append-nil, zero-add, arith, length-append}
+use Rattle.std.proofs.lemmas.List.{map-id}
 use Rattle.std.proofs.lemmas.List.Elements.{filter-append}
+use Rattle.std.proofs.lemmas.List.FromFn.{filter_of_map_range_with_len_more}
 use Rattle.codec.specs.Demapping.{upward}
-use Rattle.codec.proofs.Apart.{upward_push, upward_join}
+use Rattle.codec.proofs.Apart.{upward_join}
 
 pub upward_none : upward 0 0 ≡ []
 unfolding upward
 upward_none = refl
 
 kept_push : (t : ℕ → Bool) (k : ℕ) → filter t (upward 0 (k + 1)) ≡ filter t (upward 0 k) ++ cond (t k) (k ∷ []) []
+unfolding upward
 kept_push t k =
-    let step : upward 0 (k + 1) ≡ upward 0 k ++ (k ∷ []) = ap (upward 0) (add-one k) ∙ upward_push 0 k ∙ ap (λ x. upward 0 k ++ (x ∷ [])) (zero-add k) in
-    ap (filter t) step ∙ filter-append t (upward 0 k) (k ∷ [])
+    ap (filter t) (sym (map-id (upward 0 (k + 1)))) ∙ filter_of_map_range_with_len_more t (λ i. i) 0 k k (zero-add k)
+    ∙ ap (λ ks. filter t ks ++ cond (t k) (k ∷ []) []) (map-id (upward 0 k))
 
 pub kept_yes : (t : ℕ → Bool) (k : ℕ) → t k ≡ true → filter t (upward 0 (k + 1)) ≡ filter t (upward 0 k) ++ (k ∷ [])
 kept_yes t k e = kept_push t k ∙ ap (λ b. filter t (upward 0 k) ++ cond b (k ∷ []) []) e

@@ -12,11 +12,15 @@ use Rattle.codec.specs.declared.request.Outcome.TheVariants.{Done, Refused}
 use Rattle.codec.proofs.Answered.{FirstOr, early}
 use Rattle.codec.proofs.LaterEnds.{no_later}
 
--- a call that is no receive leaves the lock
-still : (X : Type 0) (found : List EndFault) (asked left : Call) (outcome : Outcome) (lock : Lock) → AllByRecursion (λ f. is_period (Refused f) ≡ false) found → (X → outcome ≡ Done)
+untouched : (X : Type 0) (found : List EndFault) (asked left : Call) (outcome : Outcome) (lock : Lock) → AllByRecursion (λ f. is_period (Refused f) ≡ false) found → (X → outcome ≡ Done)
     → FirstOr X found left asked outcome → lock ≡ lock_after lock outcome
-still X [] asked left outcome lock a d h = sym (ap (lock_after lock) (d h))
-still X (fault ∷ more) asked left outcome lock a d h = sym (ap (lock_after lock) h.1 ∙ rw a.0)
+untouched X [] asked left outcome lock a d h = sym (ap (lock_after lock) (d h))
+untouched X (fault ∷ more) asked left outcome lock a d h = sym (ap (lock_after lock) h.1 ∙ rw a.0)
+
+-- a call that is no receive leaves the lock
+still : (end : End) (held : Lock) (asked left : Call) (outcome : Outcome) (lock : Lock) → (Performs end 0 asked left outcome → outcome ≡ Done)
+    → Answers end 0 held asked left outcome → lock ≡ lock_after lock outcome
+still end held asked left outcome lock d a = untouched (Performs end 0 asked left outcome) (faults held asked) asked left outcome lock (early held asked) d a
 
 module _ {S S' R : End} {lock : Lock} {outcome : Outcome} where
   pub sent : {characters : List ℕ} {symbol : ℕ} {line : List ℤ} {left : Call} → Answers S 0 new_lock (send characters symbol line) left outcome → Later (periods_of outcome) S S'
@@ -26,7 +30,7 @@ module _ {S S' R : End} {lock : Lock} {outcome : Outcome} where
     answers = a;
     sender_later = l;
     receiver_later = no_later R;
-    lock_later = still (Performs S 0 (send characters symbol line) left outcome) (faults new_lock (send characters symbol line)) (send characters symbol line) left outcome lock (early new_lock (send characters symbol line)) (λ p. p.3) a;
+    lock_later = still S new_lock (send characters symbol line) left outcome lock (λ p. p.3) a;
   }
 
   pub rested : {line : List ℤ} {left : Call} → Answers S 0 new_lock (sender_rest line) left outcome → Later (periods_of outcome) S S'
@@ -36,7 +40,7 @@ module _ {S S' R : End} {lock : Lock} {outcome : Outcome} where
     answers = a;
     sender_later = l;
     receiver_later = no_later R;
-    lock_later = still (Performs S 0 (sender_rest line) left outcome) (faults new_lock (sender_rest line)) (sender_rest line) left outcome lock (early new_lock (sender_rest line)) (λ p. p.1) a;
+    lock_later = still S new_lock (sender_rest line) left outcome lock (λ p. p.1) a;
   }
 
 module _ {S R R' : End} {lock lock' : Lock} {outcome : Outcome} where
@@ -46,5 +50,5 @@ module _ {S R R' : End} {lock lock' : Lock} {outcome : Outcome} where
     answers = a;
     sender_later = no_later S;
     receiver_later = l;
-    lock_later = m ∙ still (Performs R 0 receiver_rest left outcome) (faults lock receiver_rest) receiver_rest left outcome lock (early lock receiver_rest) (λ p. p.1) a;
+    lock_later = m ∙ still R lock receiver_rest left outcome lock (λ p. p.1) a;
   }

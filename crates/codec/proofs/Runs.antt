@@ -1,6 +1,7 @@
 -- A run, call by call. Assumes nothing.
 use Rattle.std.proofs.Common.{◌≡◌, ℕ, ◌+◌, ◌<◌, ◌≤◌, Bool, true, false, cond, not, ◌&&◌, ◌⊎◌, List, [], ◌∷◌, ◌++◌, length, get_or, take, drop, set, count_by, sym, refl, ap, ◌∙◌, subst, ap₂, inl, inr, arith, length-set, take_all, drop-set-lt}
 use Rattle.std.proofs.lemmas.List.{take_more, take_more_set, drop_more, length-take-le}
+use Rattle.std.proofs.lemmas.Grind.{drop_more_same}
 use Rattle.std.proofs.lemmas.List.Sums.{fold_push}
 use Rattle.codec.specs.Calls.{Call, Answers, content, is_period, lock_after}
 use Rattle.codec.specs.Ends.{Later}
@@ -117,18 +118,12 @@ so_far_more {start} {here} {there} xs ys i b a h s e t =
     ap₂ history before after ∙ history_push (take i xs) (take i ys) b a same in
     record {
       long = length-set ys i a ∙ s.long;
-      rest = drop-set-lt (i + 1) ys i a (omega arith) ∙ tail_of i ys xs b n h s.rest;
+      rest = drop-set-lt (i + 1) ys i a (omega arith) ∙ drop_more_same ys xs i s.rest;
       come = subst (λ l. Come start l there) (sym events) (come_more start here there (history (take i xs) (take i ys)) (event_of b a) s.come t);
     }
   where
     head_of : (i : ℕ) (ys xs : List Turn) (d : Turn) → i < length ys → i < length xs → drop i ys ≡ drop i xs → get_or ys i d ≡ get_or xs i d
     head_of i ys xs d n h r =
-        let p = drop_more ys i d n in
-        let q = drop_more xs i d h in
-        cc
-
-    tail_of : (i : ℕ) (ys xs : List Turn) (d : Turn) → i < length ys → i < length xs → drop i ys ≡ drop i xs → drop (i + 1) ys ≡ drop (i + 1) xs
-    tail_of i ys xs d n h r =
         let p = drop_more ys i d n in
         let q = drop_more xs i d h in
         cc

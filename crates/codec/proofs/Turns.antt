@@ -1,10 +1,9 @@
 -- One turn of the loops that write and read a line. Assumes nothing.
-use Rattle.std.proofs.Common.{◌≡◌, ℕ, zero, suc, ◌+◌, ◌*◌, ◌<◌, ◌≤◌, Bool, true, false, cond, not, ltb, List, [], ◌∷◌, ◌++◌, length, get_or, take, drop, set, Some, None, Option, ℤ, sym, refl, ap, ◌∙◌, ap₂, add-zero, zero-add, mul-zero, arith, MatchOption}
+use Rattle.std.proofs.Common.{◌≡◌, ℕ, ◌+◌, ◌*◌, ◌<◌, ◌≤◌, Bool, true, false, cond, not, ltb, List, [], ◌∷◌, ◌++◌, length, get_or, take, drop, set, Some, None, Option, ℤ, sym, refl, ap, ◌∙◌, ap₂, add-zero, zero-add, arith, MatchOption}
 use borrow.Rule.Slice.PartMut.{put_mid}
 use lib.Bits.{bit_xor}
 use Rattle.std.specs.List.{position, prefix_len}
-use Rattle.std.specs.Simd.{first_chunks}
-use Rattle.std.proofs.lemmas.List.{take_more, take_all, length-take-le, drop-drop, length-append, length-drop}
+use Rattle.std.proofs.lemmas.List.{take_more, take_all, length-take-le, length-append, length-drop}
 use Rattle.std.proofs.lemmas.Slice.{take-put_mid}
 use Rattle.std.proofs.lemmas.List.Sums.{prefix_len-le-length}
 use Rattle.code.proofs.Filled.{filled_more}
@@ -74,14 +73,6 @@ pub length_put_mid : {X : Type 0} (a k : ℕ) (xs ys : List X) → a + k ≤ len
 length_put_mid a k xs ys h l =
     length-append (take a xs) (ys ++ drop k (drop a xs))
     ∙ omega (arith, length-append ys (drop k (drop a xs)), length-take-le a xs (omega arith), length-drop k (drop a xs), length-drop a xs)
-
--- chunk k of the first n
-pub chunk_at : {X : Type 0} (size n : ℕ) (xs : List X) (k : ℕ) → k < n → get_or (first_chunks size n xs) k [] ≡ take size (drop (size * k) xs)
-chunk_at size zero xs k h = absurd (omega arith)
-chunk_at size (suc n) xs zero h = ap (λ m. take size (drop m xs)) (sym (mul-zero size))
-chunk_at size (suc n) xs (suc k) h =
-    let far : size + size * k ≡ size * suc k = omega arith in
-    chunk_at size n (drop size xs) k (omega arith) ∙ ap (take size) (drop-drop (size * k) size xs ∙ ap (λ m. drop m xs) far)
 
 -- the symbols read
 pub demapped_more : (pair : ℕ → ℤ × ℤ) (mask : ℕ → ℕ) (line : List ℤ) (symbols : List (Option ℕ)) (k : ℕ) (symbol : Option ℕ) → k < length symbols

@@ -1,5 +1,6 @@
 -- What a reader makes of a line, group by group. Assumes nothing.
-use Rattle.std.specs.Prelude.{◌≡◌, ℕ, zero, suc, ◌+◌, ◌<◌, Bool, not, List, [], ◌∷◌, length, map, ℤ, Some, None, filter, Option, ◌==◌, ◌≢◌, bit_xor, slice_index, slice_index_or}
+use Rattle.std.specs.Prelude.{◌≡◌, ℕ, ◌<◌, Bool, not, List, length, map, ℤ, Some, None, filter, Option, ◌==◌, ◌≢◌, bit_xor, slice_index, slice_index_or}
+use Rattle.std.specs.List.{range_with_len}
 use Rattle.std.specs.Option.{option_eq, unwrap_or}
 use Rattle.codec.specs.Ends.{End}
 use Rattle.codec.specs.Lines.{Near, line_group, line_frame, group, differing}
@@ -23,10 +24,9 @@ pub record Demapped (pair : ℕ → ℤ × ℤ) (mask : ℕ → ℕ) (line : Lis
 abbrev pub filled : List (Option ℕ) → List ℕ
 filled symbols = map (λ symbol. unwrap_or symbol 0) symbols
 
--- n numbers upwards from k
+-- n numbers upwards from k: a word of its own, so that no check writes out all 450
 unfoldable pub upward : ℕ → ℕ → List ℕ
-upward k zero = []
-upward k (suc n) = k ∷ upward (k + 1) n
+upward k n = range_with_len k n
 
 -- whether a group is erased, or carries another symbol than the word's
 abbrev pub is_changed : List (Option ℕ) → List ℕ → ℕ → Bool

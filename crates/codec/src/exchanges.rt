@@ -37,6 +37,7 @@ fn ask<X: Sending, Y: Receiving>(sender: &mut X, receiver: &mut Y, request: &mut
 ///
 /// The ends may be new or used, and their parts of different kinds. Each end counts its periods from where it stands; for two
 /// new ends that is from their making.
+// A Vec and no slice: callers know the call so, and its promises speak of the Vec's items.
 pub fn exchange<X: Sending, Y: Receiving>(sender: &mut X, receiver: &mut Y, turns: &mut Vec<Turn>)
     ensures every_call_is_answered { vec_len turns.new ≡ vec_len turns.old }
     ensures calls_answer_by_their_rules { EveryCallAnswers (X.end sender.old) (Y.end receiver.old) (Y.lock receiver.old) (history turns.old.items turns.new.items) }

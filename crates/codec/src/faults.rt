@@ -49,6 +49,7 @@ impl From<(usize, BlockFault)> for FrameFault {
     }
 }
 
+// One From for each layer, by hand: those that `thiserror` derives have no contract, and the clauses say which fault comes of which.
 impl From<BlockFault> for EndFault {
     ghost from_gives = { λ x y. y ≡ EndFault.Block x };
 

@@ -1,5 +1,5 @@
 //! Frames: 45 blocks and the management symbol as code symbols, and back.
-ghost use Rattle.std.specs.Prelude.{◌≡◌, ℕ, ◌+◌, ◌-◌, ◌*◌, ◌%◌, ◌^◌, ◌<◌, length, map, take, slice_index};
+ghost use Rattle.std.specs.Prelude.{◌≡◌, ℕ, ◌+◌, ◌-◌, ◌*◌, ◌%◌, ◌^◌, ◌<◌, ◌≤◌, length, map, take, slice_index};
 ghost use Rattle.blocks.specs.Bits.{packed, unpacked};
 ghost use Rattle.blocks.specs.Numbers.{number_of};
 ghost use Rattle.code.specs.Words.{Codeword};
@@ -18,6 +18,17 @@ use std::array;
 // A number and no Character: buffers of callers are filled with it, which are of numbers.
 pub(crate) const ERROR: u16 = 257;
 
+/// The place of the management symbol in a word.
+pub(crate) const MANAGEMENT: usize = 405;
+
+/// The low bits of a number, moved up.
+fn low_bits(number: u16, bits: usize, by: usize) -> u16
+    requires { bits + by ≤ 9 }
+    ensures { result ≡ 2 ^ by * (number % 2 ^ bits) }
+{
+    (number & ((1 << bits) - 1)) << by
+}
+
 /// Symbol j of the nine that hold a block's 81 bits: the end of one octet and the start of the next.
 fn symbol_at(block: &[u8; 11], j: usize) -> u16
     requires bit { slice_index block.now 0 < 2 }
@@ -28,7 +39,7 @@ fn symbol_at(block: &[u8; 11], j: usize) -> u16
         return u16::from(block[0]) + 2 * u16::from(block[1]);
     }
     let low = u16::from(block[j + 1] >> (j - 1));
-    let high = (u16::from(block[j + 2]) & ((1 << j) - 1)) << (9 - j);
+    let high = low_bits(u16::from(block[j + 2]), j, 9 - j);
     low + high
 }
 
@@ -59,7 +70,7 @@ impl Frame {
         for (k, ten) in tens.iter().enumerate() {
             symbols[9 * k..9 * k + 9].copy_from_slice(&symbols_of(&encode(ten)));
         }
-        symbols[405] = self.symbol;
+        symbols[MANAGEMENT] = self.symbol;
         Word { symbols }
     }
 
@@ -92,7 +103,7 @@ impl PackedBlock<'_> {
         if i == 9 {
             return 0;
         }
-        (self.symbols[i] & ((1 << (9 - i)) - 1)) << (i - 1)
+        low_bits(self.symbols[i], 9 - i, i - 1)
     }
 
     /// Octet i of the payload: the end of one symbol and the start of the next.
@@ -129,6 +140,7 @@ impl PackedBlock<'_> {
 }
 
 /// Reads block k, given as nine symbols, into its ten characters; ten errors for an invalid block.
+// Into numbers, as the caller's buffer has them: by way of `decode` each would be made a value and a number again.
 fn read_ten(k: usize, packed: PackedBlock, ten: &mut [u16]) -> Result<(), FrameFault>
     // A length, and no `&mut [u16; 10]`: `as_chunks_mut` says nothing of what the slice ends as.
     requires part_of_ten { length ten.old ≡ 10 }
@@ -149,7 +161,7 @@ pub(crate) fn read_frame(word: &Word, characters: &mut [u16; 450]) -> BlockRepor
 {
     let mut invalid = 0u64;
     let mut fault = None;
-    let (nines, _) = word.symbols[..405].as_chunks::<9>();
+    let (nines, _) = word.symbols[..MANAGEMENT].as_chunks::<9>();
     // The characters by index: `as_chunks_mut` says nothing of what the slice ends as.
     for (k, symbols) in nines.iter().enumerate() {
         let packed = PackedBlock { symbols };

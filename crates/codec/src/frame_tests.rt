@@ -1,18 +1,13 @@
-//! Frames worked out by hand.
-use crate::frame::{Frame, read_frame};
-use blocks::{BlockFault, parse};
+//! Frames worked out by hand. Characters are numbers here, as callers' buffers have them.
+use crate::checks::check_frame;
+use crate::frame::read_frame;
+use blocks::BlockFault;
 use code::Word;
 use std::test::Fail;
 
 /// The word of 450 characters and a management symbol.
 fn word(characters: &[u16; 450], symbol: u16) -> Result<Word, Fail> {
-    if symbol >= 512 {
-        return Err(Fail::new("no frame"));
-    }
-    match parse(characters) {
-        Ok(characters) => Ok(Frame { characters, symbol }.word()),
-        Err(_) => Err(Fail::new("no character")),
-    }
+    Ok(check_frame(characters, symbol)?.word())
 }
 
 #[test]

@@ -1,6 +1,8 @@
 //! The line codec: frames, ends and exchanges, with the calls of the layers below.
 //! Calls on ends take numbers and hand them out, as `write_block` and `read_block` do, since callers have such and the refusals
 //! speak of them.
+// The sizes of buffers, 450, 2,700 and 22, stand as numbers here and in the crates above, as the promises, callers and recordings have
+// them.
 #![tactic(auto)]
 
 mod checks;

@@ -1,4 +1,5 @@
 //! Lines: codewords written as 2,700 line symbols, and line symbols read as code symbols.
+// Line symbols are numbers here: as a list of `Symbol`s a line would be copied out of the caller's buffer and into it.
 ghost use Rattle.std.specs.Prelude.{◌≡◌, ◌<◌, length, MatchResult, not, position};
 ghost use Rattle.std.specs.List.{prefix_len};
 ghost use Rattle.lines.specs.LineCodes.{is_line_symbol};
@@ -18,6 +19,7 @@ use lines::{LineCode, Stream, Symbol};
 fn first_no_symbol(line: &[i8]) -> Option<usize>
     ensures { result ≡ position (λ s. not (is_line_symbol s)) line.now }
 {
+    // A place, for the fault that is told: the error of try_from has the number alone.
     line.iter().position(|s| Symbol::try_from(*s).is_err())
 }
 
@@ -33,6 +35,7 @@ pub(crate) fn check_line(line: &[i8]) -> Result<(), LineFault>
 
 /// Writes the group of a scrambled symbol. A copy of all six symbols at once would wait for the pairs to be stored.
 fn write_group<L: LineCode>(line_code: &L, scrambled: u16, group: &mut [i8])
+    // A number of nine bits, as masks are (see `Stream`).
     requires nine_bits { scrambled < 512 }
     // A length, and no `&mut [i8; 6]`: `as_chunks_mut` says nothing of what the slice ends as.
     requires six { length group.old ≡ 6 }
@@ -44,6 +47,7 @@ fn write_group<L: LineCode>(line_code: &L, scrambled: u16, group: &mut [i8])
 }
 
 /// The scrambled symbol of a group, and none where no word writes one of its pairs.
+// Pair by pair, as `write_group` writes them: a loop over three would be longer.
 fn read_group<L: LineCode>(line_code: &L, group: &[i8; 6]) -> Option<u16>
     ensures { GroupRead (L.pair line_code.now) group.now result }
 {
@@ -61,13 +65,14 @@ fn descramble<L: LineCode>(line_code: &L, mask: u16, group: &[i8; 6]) -> Option<
     Some(read_group(line_code, group)? ^ mask)
 }
 
-// Each clause names the members of the parts once: a trait for that, as the ends have, would name each method twice.
 impl<A: Arithmetic, S: Stream, L: LineCode> Parts<A, S, L> {
     /// Writes the line frame of a word, and uses up a period's masks.
     pub(crate) fn write_line(&mut self, word: &Word, line: &mut [i8; 2700])
         ensures written { line.new ≡ line_frame (parts_end A.field S.mask L.pair self.old) 0 word.now.symbols }
         ensures stands_later { let end = parts_end A.field S.mask L.pair in Later 1 (end self.old) (end self.new) }
     {
+        // Taken apart here and in `read_line`, so that only the stream moves in the loop: with `self.stream` in it the invariant would
+        // have to say of the other parts that they stay.
         let Parts {
             stream,
             line_code,

@@ -14,7 +14,7 @@ pub enum Lock {
 }
 
 /// What became of a frame.
-// Two cases and no Result: they are what the lock is moved by, in one match with it.
+// Two cases with names and no Result: what is promised of the lock speaks of them.
 #[derive(Clone, Copy, PartialEq, Eq, Debug)]
 pub enum FrameOutcome {
     Accepted,

@@ -22,7 +22,7 @@ impl Received {
         ensures { result.symbols ≡ filled self.now.symbols }
     {
         let mut symbols = [0u16; 450];
-        // A loop: `map` was tried, and is slower; `array::from_fn` was tried, and the proof didn't close.
+        // A loop: `map` takes the symbols by value, copies them first, and was slower; `array::from_fn` was tried, and the proof didn't close.
         for (k, symbol) in self.symbols.iter().enumerate() {
             symbols[k] = symbol.unwrap_or(0);
         }
@@ -40,9 +40,10 @@ impl Received {
         // invariant of that loop can't speak of k.
         for (k, symbol) in self.symbols.iter().enumerate() {
             if *symbol != Some(word.symbols[k]) {
-                let Ok(()) = places.try_push(k as u16) else {
+                if places.is_full() {
                     return Err(BeyondRepair);
-                };
+                }
+                places.push(k as u16);
             }
         }
         Ok(places)

@@ -8,7 +8,7 @@ ghost use Rattle.codec.specs.declared.lock.Lock.{Lock};
 use crate::checks::{array_of, check_lock};
 use crate::ends::{Parts, Receiver};
 use crate::faults::EndFault;
-use crate::frame::{ERROR, read_frame};
+use crate::frame::{ERROR, MANAGEMENT, read_frame};
 use crate::line::check_line;
 use crate::lock::{FrameOutcome, Lock};
 use crate::repair::{NO_PLACE, write_places};
@@ -24,6 +24,7 @@ pub trait Receiving {
 
     ghost lock: { Self → Lock };
 
+    // Three buffers of numbers side by side: callers have them so, and the refusals name each by its number and its numbers by their places.
     /// Hands out the characters of a line and the places of its damage; errors and no place where it is beyond repair.
     fn receive(
         &mut self,
@@ -89,7 +90,7 @@ impl<A: Arithmetic, S: Stream, L: LineCode> Receiving for Receiver<A, S, L> {
                 write_places(&repaired.places, places);
                 let told = read_frame(&repaired.word, characters);
                 Ok(Report {
-                    symbol: repaired.word.symbols[405],
+                    symbol: repaired.word.symbols[MANAGEMENT],
                     places: repaired.places.len(),
                     invalid: told.invalid,
                     fault: told.fault,

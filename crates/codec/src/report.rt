@@ -21,6 +21,7 @@ pub struct Report {
 #[derive(Clone, Copy, PartialEq, Eq, Debug)]
 pub struct BlockReport {
     /// The invalid blocks: weight 2^k for block k.
+    // A number, as the report hands it on.
     pub invalid: u64,
     /// The fault of the first invalid block.
     pub fault: Option<FrameFault>,

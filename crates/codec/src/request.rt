@@ -6,6 +6,7 @@ use crate::faults::EndFault;
 use crate::report::Report;
 
 /// A call on an end, with its buffers.
+// Vecs of numbers: the calls take such, and those of any length, as the refusals say.
 #[derive(Drop)]
 pub enum Request {
     Send {

@@ -13,9 +13,11 @@ use lines::{LineCode, Stream};
 
 /// An end that sends.
 pub trait Sending {
-    // What the end is made over, as it stands now: its masks are those still to come.
+    // What the end is made over, as it stands now: its masks are those still to come. `Receiving` has the like: a trait above both would be
+    // one name more and an impl more for each end, and shorten no clause.
     ghost end: { Self → End };
 
+    // Over numbers, as callers have them and the refusals name them. That the end stands later is a promise of each call.
     /// Writes the line frame of 450 characters and a management symbol.
     fn send(&mut self, characters: &[u16], symbol: u16, line: &mut [i8]) -> Result<(), EndFault>
         ensures answers_by_its_rule { Answers (end self.old) 0 new_lock (sent characters.now symbol line.old) (sent characters.now symbol line.new) (done result) }

@@ -2,7 +2,7 @@ use Rattle.std.proofs.Common.{◌≡◌, ℕ, ◌*◌, ◌+◌, ◌-◌, ◌/◌
 use Rattle.std.proofs.lemmas.List.{length-take-le, length-drop}
 use Rattle.std.specs.Simd.{first_chunks}
 use Rattle.codec.proofs.FrameReading as reading
-use Rattle.codec.proofs.Turns.{chunk_at}
+use Rattle.code.proofs.Filled.{chunk_at}
 use Rattle.codec.proofs.frame.read_frame.Goals as goal
 use Rattle.codec.proofs.frame.read_frame.Goals.{in-Err, in_default}
 

@@ -1,7 +1,7 @@
-use Rattle.std.proofs.Common.{◌+◌, ◌-◌, ◌/◌, ◌^◌, get_or, sym, ap, ◌∙◌, arith, rules}
+use Rattle.std.proofs.Common.{get_or, sym, ap, ◌∙◌, arith, rules}
 use Rattle.blocks.specs.Bits.{packed}
 use Rattle.codec.specs.Frames.{block_bits}
-use Rattle.codec.proofs.FrameSymbols.{first_symbol, later_symbol, symbol_small, moved_up}
+use Rattle.codec.proofs.FrameSymbols.{first_symbol, later_symbol, symbol_small}
 use Rattle.codec.proofs.frame.symbol_at.Goals as goal
 
 pub returns-then-j-eq0 : goal.returns-then-j-eq0
@@ -10,9 +10,8 @@ returns-then-j-eq0 c =
 
 pub overflow_add-result-2 : goal.overflow_add-result-2
 overflow_add-result-2 c =
-    rw (c.from-low.ensures, c.from-2.ensures) (omega (arith, moved_up (get_or c.args.block.now (c.args.j + 2) 0) c.args.j (9 - c.args.j) (omega arith) (omega arith), symbol_small c.args.block.now c.args.j (λ k. search rules) (omega arith) (omega arith)))
+    rw (c.from-low.ensures, c.low_bits-high.ensures, c.from-2.ensures) (omega (arith, symbol_small c.args.block.now c.args.j (λ k. search rules) (omega arith) (omega arith)))
 
 pub returns : goal.returns
 returns c =
-    rw (c.from-low.ensures, c.from-2.ensures) (ap (λ x. get_or c.args.block.now (c.args.j + 1) 0 / 2 ^ (c.args.j - 1) + x) (moved_up (get_or c.args.block.now (c.args.j + 2) 0) c.args.j (9 - c.args.j) (omega arith) (omega arith))
-    ∙ sym (later_symbol c.args.block.now c.args.j c.told-block (λ k. search rules) (omega arith) c.requires.one_of_nine))
+    rw (c.from-low.ensures, c.low_bits-high.ensures, c.from-2.ensures) (sym (later_symbol c.args.block.now c.args.j c.told-block (λ k. search rules) (omega arith) c.requires.one_of_nine))

@@ -2,7 +2,8 @@ use Rattle.std.proofs.Common.{◌≡◌, [], get_or, refl, ap, ◌∙◌, subst,
 use Rattle.codec.specs.Lines.{group}
 use Rattle.codec.specs.Demapping.{Descrambled, Demapped}
 use Rattle.codec.proofs.Nearness.{read_nine_bits}
-use Rattle.codec.proofs.Turns.{used_more, used_all, mask_now, chunk_at, demapped_more}
+use Rattle.code.proofs.Filled.{chunk_at}
+use Rattle.codec.proofs.Turns.{used_more, used_all, mask_now, demapped_more}
 use Rattle.codec.proofs.ends.Parts.read_line.Goals as goal
 
 pub loop-k-preserved : goal.loop-k-preserved

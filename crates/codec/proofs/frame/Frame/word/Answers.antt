@@ -5,7 +5,7 @@ use Rattle.blocks.specs.Numbers.{number_of}
 use Rattle.codec.specs.Frames.{block_bits}
 use Rattle.codec.proofs.FrameBits.{header_of}
 use Rattle.codec.proofs.FrameWriting as writing
-use Rattle.codec.proofs.Turns.{chunk_at}
+use Rattle.code.proofs.Filled.{chunk_at}
 use Rattle.codec.proofs.frame.Frame.word.Goals as goal
 
 pub loop-k-init : goal.loop-k-init
