@@ -9,6 +9,7 @@ use Rattle.codec.specs.declared.lock.Lock.{Lock}
 use Rattle.codec.specs.declared.lock.Lock.TheVariants.{Locked, Lost}
 use Rattle.codec.specs.declared.request.Outcome.{Outcome}
 use Rattle.codec.proofs.Answered.{FirstOr}
+use Rattle.codec.proofs.Faulted.{rest_no_fault}
 use Rattle.bench.specs.Benches.{Standing, Tells, Rests, both, neither}
 use Rattle.bench.specs.Printing.{Answer}
 
@@ -23,16 +24,12 @@ unfolding faults
 no_lock end (Locked bad) fault h = let r = h.1 in let z : ◌≡◌ {A = ℕ} 0 1 = cc in absurd (omega arith)
 no_lock end Lost fault h = let r = h.1 in (refl, cc)
 
-no_fault : (line : List ℤ) → length line ≡ 2700 → faults new_lock (sender_rest line) ≡ []
-unfolding faults
-no_fault line e = ap (λ n. fault_if (not (eqb n 2700)) (EndFault.Length 0) ++ []) e
-
 -- a sender rests onto a line of 2,700 symbols
 zeros : (end : End) (line left : List ℤ) (outcome : Outcome) → length line ≡ 2700
     → Answers end 0 new_lock (sender_rest line) (sender_rest left) outcome → (left ≡ replicate 2700 (pos 0)) × (outcome ≡ Outcome.Done)
 zeros end line left outcome full h =
     let p : Performs end 0 (sender_rest line) (sender_rest left) outcome =
-    subst (λ found. FirstOr (Performs end 0 (sender_rest line) (sender_rest left) outcome) found (sender_rest left) (sender_rest line) outcome) (no_fault line full) h in
+    subst (λ found. FirstOr (Performs end 0 (sender_rest line) (sender_rest left) outcome) found (sender_rest left) (sender_rest line) outcome) (rest_no_fault new_lock line full) h in
     let e = p.0 in
     let same : left ≡ replicate 2700 (pos 0) = cc in
     (same, p.1)

@@ -19,6 +19,7 @@ pub enum BenchFault {
     End { fault: EndFault },
 }
 
+// By hand: the From that `thiserror` derives has no contract.
 impl From<EndFault> for BenchFault {
     ghost from_gives = { λ fault e. e ≡ BenchFault.End fault };
 

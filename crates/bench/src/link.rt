@@ -9,6 +9,7 @@ use crate::record::Record;
 use codec::{Receiving, Report, Sending};
 
 /// What became of a record, as an answer says it, with the fault itself in place of its refusal.
+// Beside `Answer`, which is public: one alias over the error would name the error at each use.
 pub(crate) type Reply = Result<Option<Report>, BenchFault>;
 
 /// A sender and a receiver over one line, with buffers for what is sent and received.
@@ -16,6 +17,7 @@ pub(crate) type Reply = Result<Option<Report>, BenchFault>;
 pub(crate) struct Link<X, Y> {
     pub(crate) sender: X,
     pub(crate) receiver: Y,
+    // Numbers, of the sizes that the calls of the ends take.
     pub(crate) line: [i8; 2700],
     pub(crate) characters: [u16; 450],
     pub(crate) places: [u16; 22],

@@ -15,6 +15,7 @@ pub struct Hit {
 
 /// Reads a send's payload: the characters into the buffer, as many as it holds, and the management symbol as the answer.
 /// A payload of another length is refused; `number` is the record's number.
+// Into numbers, as the calls of the ends take them: a send refuses those that are no characters.
 pub fn read_send(payload: &[u8], number: usize, characters: &mut [u16]) -> Result<u16, BenchFault>
     ensures symbol_then_characters_or_refused { MatchResult result
         (λ symbol. payload.now ≡ send_payload symbol characters.new)

@@ -5,6 +5,7 @@ ghost use Rattle.bench.specs.Files.{IsRecord, NoRecord};
 use crate::head::{Head, read_head};
 
 /// A head, and a payload of the length that it says.
+// The length stays in the head, which is handed on and judged whole.
 #[derive(Clone, Copy)]
 pub(crate) struct Record<'a> {
     pub(crate) head: Head,

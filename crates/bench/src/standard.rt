@@ -12,6 +12,7 @@ pub fn standard_bench() -> Bench<Tabled, Scrambler, Ring>
     ensures both_ends_alike { stands result ≡ standard }
     ensures counts_from_0 { result.number ≡ 0 }
 {
+    // As in two programs: a public function for it in the crate `lines` would be longer than this line.
     let stream = Scrambler::from_seed(Role::Master, Seed::ONE);
     Bench::new(
         Sender::new(Tabled, stream, Ring),

@@ -5,6 +5,7 @@ use std::test::Fail;
 /// A frame of zeros goes out, its first line symbol is turned into 1, and receiving it repairs that one group.
 #[test]
 fn one_hit_is_repaired(rt: HostRuntime) -> Result<(), Fail> {
+    // The records of the program `worked`, which prints what is compared here: bench would have to export them for one program.
     let mut octets = [0u8; 917];
     octets[..4].copy_from_slice(&[134, 3, 1, 0]);
     octets[906..].copy_from_slice(&[3, 0, 2, 0, 0, 0, 2, 0, 0, 3, 0]);
@@ -20,6 +21,7 @@ fn one_hit_is_repaired(rt: HostRuntime) -> Result<(), Fail> {
 fn zeros_are_beyond_repair(rt: HostRuntime) -> Result<(), Fail> {
     let mut bench = standard_bench();
     let mut out = String::new(rt.alloc());
+    // Forty times the same: a count, and no index.
     for _ in 0..40u8 {
         out.clear();
         assert_eq!(rt; bench.run(&[0, 0, 3, 0], &mut out)?, 4);

@@ -23,6 +23,8 @@ fn characters_of(layout: u16) -> [u16; 10] {
 }
 
 /// Whether ten characters come back from the block that they make.
+// Over numbers: what is tried are the calls that callers with numbers make. A refusal counts as not returned, so no error is told.
+// A test of blocks does the like: blocks would have to export it for one program.
 fn returns(characters: &[u16; 10]) -> bool {
     let mut block = [0; 11];
     let mut back = [0; 10];
@@ -32,6 +34,7 @@ fn returns(characters: &[u16; 10]) -> bool {
 }
 
 fn main(rt: HostRuntime) -> io::Result<()> {
+    // Counted by hand, since a line is printed for each that doesn't come back.
     let mut returned = 0u32;
     // The number is the layout itself, and no index.
     for layout in 0u16..1024 {

@@ -25,7 +25,8 @@ fn characters() -> [u16; 450] {
 }
 
 /// The stream of a master at state 1.
-fn master() -> Scrambler {
+// As in bench and in `worked`: a public function for it in the crate `lines` would be longer than this line.
+pub(crate) fn master() -> Scrambler {
     Scrambler::from_seed(Role::Master, Seed::ONE)
 }
 
@@ -37,12 +38,13 @@ fn line_frame() -> Result<[i8; 2700], EndFault> {
 }
 
 /// Damages as many groups, every twentieth from the fourth on: one symbol of each is another one.
+// A word's `damage` goes by symbols; a test of codec damages lines otherwise.
 fn damage(line: &mut [i8; 2700], groups: usize) {
     let damaged = line.chunks_exact_mut(6).skip(3).step_by(20).take(groups);
+    // Another place in each group, by its number: a zip with (0..6).cycle() would count the same.
     for (i, group) in damaged.enumerate() {
-        if let Some(symbol) = group.get_mut(i % 6) {
-            *symbol = if *symbol == 0 { 1 } else { 0 };
-        }
+        let symbol = &mut group[i % 6];
+        *symbol = if *symbol == 0 { 1 } else { 0 };
     }
 }
 
@@ -70,19 +72,19 @@ pub(crate) fn damaged_frame(rt: &HostRuntime) -> anyhow::Result<()> {
     print_outcome(rt, answer)?;
     print!(rt; "  repaired groups")?;
     print_each(rt, &places)?;
-    println!(rt; "")?;
     println!(rt; "  the characters came back: {}", received == characters())?;
     Ok(())
 }
 
 /// Bad frames until lock is lost.
+// Receiver and buffers as in `damaged_frame`: a struct for them would be longer than these lines.
 pub(crate) fn lost_lock(rt: &HostRuntime) -> io::Result<()> {
     println!(rt; "Bad frames, lines of zeros:")?;
     let mut receiver = Receiver::new(Tabled, master(), Ring);
     let line = [0i8; 2700];
     let mut received = [0u16; 450];
     let mut places = [0u16; 22];
-    // The number is printed, and no index.
+    // The number is printed, and no index. Of the frames between nothing is told: each is beyond repair, as the first is.
     for n in 1..42usize {
         let answer = receiver.receive(&line, &mut received, &mut places);
         if n == 1 || n >= 40 {
@@ -93,13 +95,21 @@ pub(crate) fn lost_lock(rt: &HostRuntime) -> io::Result<()> {
     Ok(())
 }
 
-// Accepted and refused are printed as an answer is; an outcome has two cases more.
+// Accepted and refused are printed as an answer is; an outcome has two cases more. No Display, as at `print_outcome`.
 fn print_turn(rt: &HostRuntime, turn: &Turn) -> io::Result<()> {
     match turn.outcome {
         Outcome::Unanswered => println!(rt; "  not asked"),
         Outcome::Done => println!(rt; "  done"),
         Outcome::Accepted { report } => print_outcome(rt, Ok(report)),
         Outcome::Refused { fault } => print_outcome(rt, Err(fault)),
+    }
+}
+
+/// A call whose turn has not come.
+fn asked(request: Request) -> Turn {
+    Turn {
+        request,
+        outcome: Outcome::Unanswered,
     }
 }
 
@@ -110,32 +120,20 @@ pub(crate) fn a_list_of_calls(rt: &HostRuntime) -> anyhow::Result<()> {
     let mut line = line_frame()?;
     damage(&mut line, 5);
     let mut turns = vec![in heap;
-        Turn {
-            request: Request::Send {
-                characters: characters().to_vec(heap)?,
-                symbol: SYMBOL,
-                line: vec![in heap; 0i8; 2700]?
-            },
-            outcome: Outcome::Unanswered
-        },
-        Turn {
-            request: Request::Receive {
-                line: line.to_vec(heap)?,
-                characters: vec![in heap; 0u16; 450]?,
-                places: vec![in heap; 0u16; 22]?
-            },
-            outcome: Outcome::Unanswered
-        },
-        Turn {
-            request: Request::SenderRest {
-                line: vec![in heap; 0i8; 2699]?
-            },
-            outcome: Outcome::Unanswered
-        },
-        Turn {
-            request: Request::ReceiverRest,
-            outcome: Outcome::Unanswered
-        },
+        asked(Request::Send {
+            characters: characters().to_vec(heap)?,
+            symbol: SYMBOL,
+            line: vec![in heap; 0i8; 2700]?
+        }),
+        asked(Request::Receive {
+            line: line.to_vec(heap)?,
+            characters: vec![in heap; 0u16; 450]?,
+            places: vec![in heap; 0u16; 22]?
+        }),
+        asked(Request::SenderRest {
+            line: vec![in heap; 0i8; 2699]?
+        }),
+        asked(Request::ReceiverRest),
     ]?;
     exchange_of_two_kinds(&mut turns);
     for turn in turns.iter() {

@@ -6,14 +6,12 @@ use std::io;
 
 fn print_block(rt: &HostRuntime, block: &[u8; 11]) -> io::Result<()> {
     print!(rt; "  header {}, payload", block[0])?;
-    print_each(rt, &block[1..])?;
-    println!(rt; "")
+    print_each(rt, &block[1..])
 }
 
 fn print_characters(rt: &HostRuntime, characters: &[u16; 10]) -> io::Result<()> {
     print!(rt; "  characters")?;
-    print_each(rt, characters)?;
-    println!(rt; "")
+    print_each(rt, characters)
 }
 
 /// Reads a block, and prints its characters or why it is refused.
@@ -26,18 +24,18 @@ fn print_read(rt: &HostRuntime, block: &[u8; 11]) -> io::Result<()> {
 }
 
 /// A packet's last nine octets and an error mark, which falls in octet 9: written, and read back.
-pub(crate) fn packet_tail(rt: &HostRuntime) -> io::Result<()> {
+pub(crate) fn packet_tail(rt: &HostRuntime) -> anyhow::Result<()> {
     println!(rt; "A packet's tail with an error mark as its lone control, in octet 9:")?;
+    // Numbers, as the calls take them and as they are printed.
     let mark = u16::from(Character::Control(Control::Error));
     let tail = [0xde, 0xad, 0xbe, 0xef, 0x10, 0x20, 0x30, 0x40, 0x50, mark];
     print_characters(rt, &tail)?;
     let mut block = [0u8; 11];
-    if let Err(fault) = write_block(&tail, &mut block) {
-        return println!(rt; "  {}", fault.refusal());
-    }
+    write_block(&tail, &mut block)?;
     print_block(rt, &block)?;
     println!(rt; "read back:")?;
-    print_read(rt, &block)
+    print_read(rt, &block)?;
+    Ok(())
 }
 
 /// One block of each kind that encodes no characters, with its refusal.
